@@ -1,0 +1,153 @@
+-- Laws of `unless`, `first` and `earliest`: a chain of tests, test by test; stages, one by one; and back again. Assumes nothing.
+use Prim.Native.Nat.{ℕ, zero, suc, _≤_}
+use mathlib.Core.Path.{_≡_, refl, ap, sym, _∙_}
+use mathlib.Core.Logic.{_≢_}
+use mathlib.Core.List.{List, [], _∷_, _++_}
+use mathlib.Core.Bool.{Bool, true, false, _&&_, cond}
+use native.Mathlib.Omega.{arith}
+use lib.Dec.{T, ltb, ltb→lt, leb, leb→le}
+use Rattle.words.specs.Answers.{Answer, refused, gives, unless, first, orElse, earliest}
+use Rattle.words.specs.Facts.{NoneHolds, Decides, numbered}
+
+-- ---- an answer and its number
+
+-- a number that is not 0 is the refusal
+pub unless-number : (n : ℕ) (a : Answer) → n ≢ 0 → unless n a ≡ refused n
+unless-number zero a h = absurd (h refl)
+unless-number (suc n) a h = refl
+
+-- values come back only where the number is 0, and they are the ones
+pub unless-gives : (n : ℕ) {xs ys : List ℕ} → unless n (gives xs) ≡ gives ys → (n ≡ 0) × (xs ≡ ys)
+unless-gives zero e = (refl, cc)
+unless-gives (suc n) e = let z : _≡_ {A = ℕ} 0 1 = cc in absurd (omega arith)
+
+-- a refusal comes back only where the number is not 0, and it is that number
+pub unless-refused : (n : ℕ) (xs : List ℕ) {m : ℕ} → unless n (gives xs) ≡ refused m → (n ≡ m) × (m ≢ 0)
+unless-refused zero xs e = let z : _≡_ {A = ℕ} 0 1 = cc in absurd (omega arith)
+unless-refused (suc n) xs e = (cc, λ h. let z : suc n ≡ 0 = cc in omega arith)
+
+-- ---- the first test that holds
+
+T-both : (a b : Bool) → T (a && b) → T a × T b
+T-both true b h = (tt, h)
+T-both false b h = absurd h
+
+-- a test that fails is passed over, one that holds decides: a chain of refusals, test by test
+pub first-skip : {b : Bool} (n : ℕ) (ts : List (Bool × ℕ)) → b ≡ false → first ((b, n) ∷ ts) ≡ first ts
+unfolding first
+first-skip {b} n ts e = ap (λ (x : Bool). cond x n (first ts)) e
+
+pub first-take : {b : Bool} (n : ℕ) (ts : List (Bool × ℕ)) → b ≡ true → first ((b, n) ∷ ts) ≡ n
+unfolding first
+first-take {b} n ts e = ap (λ (x : Bool). cond x n (first ts)) e
+
+pub first-end : first [] ≡ 0
+unfolding first
+first-end = refl
+
+-- the first wins
+pub first-wins : (ts us : List (Bool × ℕ)) (n : ℕ) → NoneHolds ts → first (ts ++ (true, n) ∷ us) ≡ n
+unfolding first
+first-wins [] us n h = refl
+first-wins (t ∷ ts) us n h = ap (λ (b : Bool). cond b (t .1) (first (ts ++ (true, n) ∷ us))) (h .0) ∙ first-wins ts us n (h .1)
+
+-- 0 where none holds, and only there
+pub first-none : (ts : List (Bool × ℕ)) → NoneHolds ts → first ts ≡ 0
+unfolding first
+first-none [] h = refl
+first-none (t ∷ ts) h = ap (λ (b : Bool). cond b (t .1) (first ts)) (h .0) ∙ first-none ts (h .1)
+
+pub first-zero : (ts : List (Bool × ℕ)) → T (numbered ts) → first ts ≡ 0 → NoneHolds ts
+unfolding first
+first-zero [] p e = tt
+first-zero ((true, n) ∷ ts) p e = absurd (omega (arith, ltb→lt 0 n (T-both (ltb 0 n) (numbered ts) p .0)))
+first-zero ((false, n) ∷ ts) p e = (refl, first-zero ts (T-both (ltb 0 n) (numbered ts) p .1) e)
+
+-- a number that comes back is that of a test that holds, and every test before it fails
+pub first-decides : (ts : List (Bool × ℕ)) {n : ℕ} → first ts ≡ n → n ≢ 0 → Decides ts n
+unfolding first
+first-decides [] e h = absurd (h (sym e))
+first-decides ((true, m) ∷ ts) e h = record { before = []; after = ts; fail = tt; split = ap (λ (k : ℕ). (true, k) ∷ ts) e }
+first-decides ((false, m) ∷ ts) e h =
+    let w = first-decides ts e h in
+    record { before = (false, m) ∷ w .before; after = w .after; fail = (refl, w .fail); split = ap (λ (us : List (Bool × ℕ)). (false, m) ∷ us) (w .split) }
+
+-- and it comes back wherever that is so
+pub decides-first : (ts : List (Bool × ℕ)) (n : ℕ) → Decides ts n → first ts ≡ n
+decides-first ts n w = ap first (w .split) ∙ first-wins (w .before) (w .after) n (w .fail)
+
+-- no number of the list passes b, so the answer does not
+abbrev pub upto : ℕ → List (Bool × ℕ) → Bool
+upto b [] = true
+upto b (t ∷ ts) = leb (t .1) b && upto b ts
+
+pub first-upto : (b : ℕ) (ts : List (Bool × ℕ)) → T (upto b ts) → first ts ≤ b
+unfolding first
+first-upto b [] p = omega arith
+first-upto b ((true, n) ∷ ts) p = leb→le n b (T-both (leb n b) (upto b ts) p .0)
+first-upto b ((false, n) ∷ ts) p = first-upto b ts (T-both (leb n b) (upto b ts) p .1)
+
+-- ---- a number, or the next where it is 0
+
+pub else-stop : (a b : ℕ) → a ≢ 0 → orElse a b ≡ a
+unfolding orElse
+else-stop zero b h = absurd (h refl)
+else-stop (suc a) b h = refl
+
+pub else-pass : {a : ℕ} (b : ℕ) → a ≡ 0 → orElse a b ≡ b
+unfolding orElse
+else-pass b e = rw e
+
+pub else-zero : (a b : ℕ) → orElse a b ≡ 0 → (a ≡ 0) × (b ≡ 0)
+unfolding orElse
+else-zero zero b e = (refl, e)
+else-zero (suc a) b e = absurd (omega arith)
+
+pub else-upto : (m a b : ℕ) → a ≤ m → b ≤ m → orElse a b ≤ m
+unfolding orElse
+else-upto m zero b h l = l
+else-upto m (suc a) b h l = h
+
+-- ---- stages: one that passes is left out, one that refuses decides
+
+pub earliest-pass : {n : ℕ} (ns : List ℕ) → n ≡ 0 → earliest (n ∷ ns) ≡ earliest ns
+unfolding earliest
+earliest-pass ns e = else-pass (earliest ns) e
+
+pub earliest-stop : (n : ℕ) (ns : List ℕ) → n ≢ 0 → earliest (n ∷ ns) ≡ n
+unfolding earliest
+earliest-stop n ns h = else-stop n (earliest ns) h
+
+pub earliest-zero : (n : ℕ) (ns : List ℕ) → earliest (n ∷ ns) ≡ 0 → (n ≡ 0) × (earliest ns ≡ 0)
+unfolding earliest
+earliest-zero n ns e = else-zero n (earliest ns) e
+
+pub earliest-end : earliest [] ≡ 0
+unfolding earliest
+earliest-end = refl
+
+pub earliest-last : (n : ℕ) → earliest (n ∷ []) ≡ n
+unfolding earliest orElse
+earliest-last zero = refl
+earliest-last (suc n) = refl
+
+pub earliest-upto : (b n : ℕ) (ns : List ℕ) → n ≤ b → earliest ns ≤ b → earliest (n ∷ ns) ≤ b
+unfolding earliest
+earliest-upto b n ns h l = else-upto b n (earliest ns) h l
+
+-- ---- stages of a lookup, each with an answer of its own
+
+-- a stage that refuses decides, whatever comes later
+pub stage-stops : (n : ℕ) (xs : List ℕ) {m : ℕ} (ns : List ℕ) (ys : List ℕ) → unless n (gives xs) ≡ refused m → unless (earliest (n ∷ ns)) (gives ys) ≡ refused m
+stage-stops n xs {m} ns ys e =
+    let u = unless-refused n xs e in
+    let z : earliest (n ∷ ns) ≡ m = earliest-stop n ns (λ q. u .1 (sym (u .0) ∙ q)) ∙ u .0 in
+    ap (λ (k : ℕ). unless k (gives ys)) z ∙ unless-number m _ (u .1)
+
+-- one that passes is left out
+pub stage-passes : {n : ℕ} (ns : List ℕ) (a : Answer) {b : Answer} → n ≡ 0 → unless (earliest ns) a ≡ b → unless (earliest (n ∷ ns)) a ≡ b
+stage-passes {n} ns a z e = ap (λ (k : ℕ). unless k a) (earliest-pass ns z) ∙ e
+
+-- the last stage is the answer
+pub stage-last : (n : ℕ) (a : Answer) → unless (earliest (n ∷ [])) a ≡ unless n a
+stage-last n a = ap (λ (k : ℕ). unless k a) (earliest-last n)

@@ -1,0 +1,9 @@
+pub mod NumberLaws
+pub mod StoreLaws
+pub mod FieldLaws
+pub mod Shifts
+pub mod TableLaws
+pub mod AnswerLaws
+pub mod BelowLaws
+pub mod MaskLaws
+pub mod Theorems

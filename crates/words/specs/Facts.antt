@@ -1,0 +1,151 @@
+-- What is proved of the definitions of this crate, for every number and every list. Each record is one theorem, to be read
+-- without its proof; proofs/Theorems.antt has a proof of each, under the same name with hyphens.
+-- Assumes nothing.
+use Prim.Native.Nat.{ℕ, zero, suc, _+_, _*_, _/_, _%_, _^_, _≤_, _<_}
+use mathlib.Core.Path.{_≡_}
+use mathlib.Core.Logic.{_⊎_, _↔_, _≢_}
+use mathlib.Core.Bool.{Bool, true, false, _&&_}
+use mathlib.Core.List.{List, [], _∷_, _++_}
+use lib.ListN.{length, getD}
+use lib.Dec.{T, ltb}
+use lib.Count.{ones}
+use Rattle.words.specs.Bytes.{AllBytes, numberAt, stored}
+use Rattle.words.specs.Fields.{field, withField, bit}
+use Rattle.words.specs.Tables.{fields, withFields, total, Fit}
+use Rattle.words.specs.Answers.{Answer, refused, gives, unless, first, earliest}
+use Rattle.words.specs.Below.{anyBelow, firstBelow, least}
+use Rattle.words.specs.Masks.{one, howMany, maskOf}
+
+-- ---- numbers in bytes
+
+-- The number of n bytes at a place: its bytes are the list's, it has no more than n, past the end all is 0, and it splits anywhere.
+pub record NumberFact (xs : List ℕ) (at n : ℕ) : Type 0 where
+  pub bytes : AllBytes xs → (k : ℕ) → k < n → numberAt xs at n / 256 ^ k % 256 ≡ getD xs (at + k) 0
+  pub below : AllBytes xs → numberAt xs at n < 256 ^ n
+  pub past : length xs ≤ at → numberAt xs at n ≡ 0
+  pub split : (m : ℕ) → numberAt xs at (m + n) ≡ numberAt xs at m + 256 ^ m * numberAt xs (at + m) n
+
+-- A number stored: where it fits its n bytes stand there, every other byte and the length are as they were; where it does not
+-- fit, all is as it was. It is read back; storing what was read changes nothing; the last store wins.
+pub record StoreFact (xs : List ℕ) (at n v : ℕ) : Type 0 where
+  pub bytes : at + n ≤ length xs → (k : ℕ) → k < n → getD (stored xs at n v) (at + k) 0 ≡ v / 256 ^ k % 256
+  pub others : (k : ℕ) → (k < at) ⊎ (at + n ≤ k) → getD (stored xs at n v) k 0 ≡ getD xs k 0
+  pub size : length (stored xs at n v) ≡ length xs
+  pub short : length xs < at + n → stored xs at n v ≡ xs
+  pub read : at + n ≤ length xs → numberAt (stored xs at n v) at n ≡ v % 256 ^ n
+  pub same : AllBytes xs → stored xs at n (numberAt xs at n) ≡ xs
+  pub last : (u : ℕ) → stored (stored xs at n u) at n v ≡ stored xs at n v
+
+-- ---- fields of a number
+
+-- The field fact, at every place and width: what is read after a write is what was written, bit by bit too; every other bit is as
+-- it was; writing what was read changes nothing; the last write wins; a number of n bits stays one.
+pub record FieldFact (p w x v : ℕ) : Type 0 where
+  pub read : field p w (withField p w x v) ≡ v % 2 ^ w
+  pub bits : (k : ℕ) → k < w → bit (p + k) (withField p w x v) ≡ bit k v
+  pub others : (k : ℕ) → (k < p) ⊎ (p + w ≤ k) → bit k (withField p w x v) ≡ bit k x
+  pub same : withField p w x (field p w x) ≡ x
+  pub last : (u : ℕ) → withField p w (withField p w x u) v ≡ withField p w x v
+  pub stays : (n : ℕ) → p + w ≤ n → x < 2 ^ n → withField p w x v < 2 ^ n
+
+-- Any field q u beside the written one: a field is below 2 to its width; inside, below and above what was written.
+pub record BesideFact (p w x v q u : ℕ) : Type 0 where
+  pub narrow : field q u x < 2 ^ u
+  pub inside : q + u ≤ w → field (p + q) u (withField p w x v) ≡ field q u v
+  pub below : q + u ≤ p → field q u (withField p w x v) ≡ field q u x
+  pub above : p + w ≤ q → field q u (withField p w x v) ≡ field q u x
+
+-- Two numbers of n bits with the same bits are equal.
+abbrev pub SameBits : ℕ → ℕ → ℕ → Type 0
+SameBits n x y = x < 2 ^ n → y < 2 ^ n → ((k : ℕ) → k < n → bit k x ≡ bit k y) → x ≡ y
+
+-- ---- structures: tables of widths
+
+-- A structure of n bytes whose widths take all of their bits, whatever number y of n bytes the fields are written into:
+-- read and written back it is the same bytes; written and read back it is the same values, bytes outside as they were; what was
+-- read at one place and is written at another is the same bytes there.
+pub record RoundTrips (ws : List ℕ) (n : ℕ) (xs : List ℕ) (at y : ℕ) : Type 0 where
+  pub back : AllBytes xs → stored xs at n (withFields 0 ws y (fields 0 ws (numberAt xs at n))) ≡ xs
+  pub kept : (vs : List ℕ) → Fit ws vs → at + n ≤ length xs → fields 0 ws (numberAt (stored xs at n (withFields 0 ws y vs)) at n) ≡ vs
+  pub outside : (vs : List ℕ) (k : ℕ) → (k < at) ⊎ (at + n ≤ k) → getD (stored xs at n (withFields 0 ws y vs)) k 0 ≡ getD xs k 0
+  pub carried : AllBytes xs → (zs : List ℕ) (to : ℕ) → to + n ≤ length zs
+      → (k : ℕ) → k < n → getD (stored zs to n (withFields 0 ws y (fields 0 ws (numberAt xs at n)))) (to + k) 0 ≡ getD xs (at + k) 0
+
+-- Two words side by side, x of the widths ws below and y of the widths us above: their fields are those of the one and then those
+-- of the other, read and written.
+pub record SideBySide (ws us : List ℕ) (x y : ℕ) : Type 0 where
+  pub read : fields 0 (ws ++ us) (y * 2 ^ total ws + x) ≡ fields 0 ws x ++ fields 0 us y
+  pub written : (vs ts : List ℕ) → Fit ws vs
+      → withFields 0 (ws ++ us) (y * 2 ^ total ws + x) (vs ++ ts) ≡ withFields 0 us y ts * 2 ^ total ws + withFields 0 ws x vs
+
+-- Two numbers stored one after the other are one number stored, where both fit.
+abbrev pub StoredTwo : List ℕ → ℕ → ℕ → ℕ → ℕ → ℕ → Type 0
+StoredTwo xs at m n a b = a < 256 ^ m → at + (m + n) ≤ length xs
+    → stored (stored xs at m a) (at + m) n b ≡ stored xs at (m + n) (b * 256 ^ m + a)
+
+-- ---- which test decides
+
+-- every test of a list fails
+abbrev pub NoneHolds : List (Bool × ℕ) → Type 0
+NoneHolds [] = Unit {0}
+NoneHolds (t ∷ ts) = (t .0 ≡ false) × NoneHolds ts
+
+-- a test with the number n holds, and every test before it fails
+pub record Decides (ts : List (Bool × ℕ)) (n : ℕ) : Type 0 where
+  pub before : List (Bool × ℕ)
+  pub after : List (Bool × ℕ)
+  pub fail : NoneHolds before
+  pub split : ts ≡ before ++ (true, n) ∷ after
+
+-- no number of a list is 0; of a list that is written out `tt` proves it
+abbrev pub numbered : List (Bool × ℕ) → Bool
+numbered [] = true
+numbered (t ∷ ts) = ltb 0 (t .1) && numbered ts
+
+-- A chain of tests: complete, since some number always comes; a number of the table comes exactly if its test holds and none before it;
+-- 0 comes exactly if none holds.
+pub record FirstFact (ts : List (Bool × ℕ)) : Type 0 where
+  pub decides : (n : ℕ) → n ≢ 0 → (first ts ≡ n) ↔ Decides ts n
+  pub none : T (numbered ts) → (first ts ≡ 0) ↔ NoneHolds ts
+  pub unique : (m n : ℕ) → T (numbered ts) → Decides ts m → Decides ts n → m ≡ n
+
+-- A lookup's answer: values exactly where the number is 0, and then these; a refusal exactly where it is not, and then this one.
+pub record UnlessFact (n : ℕ) (vs : List ℕ) : Type 0 where
+  pub accepts : (us : List ℕ) → (unless n (gives vs) ≡ gives us) ↔ ((n ≡ 0) × (vs ≡ us))
+  pub refuses : (m : ℕ) → (unless n (gives vs) ≡ refused m) ↔ ((n ≡ m) × (m ≢ 0))
+
+-- Stages: the number of the first stage that refuses, 0 exactly where all pass.
+pub record EarliestFact (n : ℕ) (ns : List ℕ) : Type 0 where
+  pub passes : n ≡ 0 → earliest (n ∷ ns) ≡ earliest ns
+  pub stops : n ≢ 0 → earliest (n ∷ ns) ≡ n
+  pub all : (earliest (n ∷ ns) ≡ 0) ↔ ((n ≡ 0) × (earliest ns ≡ 0))
+  pub ends : earliest [] ≡ 0
+
+-- ---- searches
+
+-- Some number below n passes.
+pub record AnyFact (p : ℕ → Bool) (n : ℕ) : Type 0 where
+  pub some : (anyBelow p n ≡ true) ↔ ((k : ℕ) × (k < n) × (p k ≡ true))
+  pub none : (anyBelow p n ≡ false) ↔ ((k : ℕ) → k < n → p k ≡ false)
+
+-- The first fault among the numbers below n.
+pub record FaultFact (f : ℕ → ℕ) (n : ℕ) : Type 0 where
+  pub none : (firstBelow f n ≡ 0) ↔ ((k : ℕ) → k < n → f k ≡ 0)
+  pub some : (m : ℕ) → m ≢ 0 → (firstBelow f n ≡ m) ↔ ((k : ℕ) × (k < n) × (f k ≡ m) × ((i : ℕ) → i < k → f i ≡ 0))
+
+-- j lies from k on, every number before it fails, and it passes or is k + n
+pub record IsLeast (p : ℕ → Bool) (n k j : ℕ) : Type 0 where
+  pub starts : k ≤ j
+  pub ends : j ≤ k + n
+  pub fail : (i : ℕ) → k ≤ i → i < j → p i ≡ false
+  pub passes : j < k + n → p j ≡ true
+
+-- The least number that passes, and only that one.
+abbrev pub LeastFact : (ℕ → Bool) → ℕ → ℕ → Type 0
+LeastFact p n k = (j : ℕ) → (least p n k ≡ j) ↔ IsLeast p n k j
+
+-- The mask of a test has bit k exactly where k passes and no other, and as many ones as numbers pass.
+pub record MaskFact (p : ℕ → Bool) (n : ℕ) : Type 0 where
+  pub bits : (k : ℕ) → k < n → bit k (maskOf p n) ≡ one (p k)
+  pub below : maskOf p n < 2 ^ n
+  pub count : ones (maskOf p n) ≡ howMany p n

@@ -1,0 +1,29 @@
+-- A number as a table of fields that follow one another from place p up; ws are their widths, the lowest field first, reserved
+-- fields among them. Every structure and register of the documents is such a table.
+--   fields p ws x          what each field holds
+--   withFields p ws x vs   x with the value of vs in each field
+--   total ws               the bits that the table takes
+--   Fit ws vs              a value for each field, each below 2 to its width
+-- Assumes nothing.
+use Prim.Native.Nat.{ℕ, _+_, _^_, _<_}
+use mathlib.Core.List.{List, [], _∷_}
+use Rattle.words.specs.Fields.{field, withField}
+
+unfoldable pub fields : ℕ → List ℕ → ℕ → List ℕ
+fields p [] x = []
+fields p (w ∷ ws) x = field p w x ∷ fields (p + w) ws x
+
+unfoldable pub withFields : ℕ → List ℕ → ℕ → List ℕ → ℕ
+withFields p [] x vs = x
+withFields p (w ∷ ws) x [] = x
+withFields p (w ∷ ws) x (v ∷ vs) = withFields (p + w) ws (withField p w x v) vs
+
+abbrev pub total : List ℕ → ℕ
+total [] = 0
+total (w ∷ ws) = w + total ws
+
+abbrev pub Fit : List ℕ → List ℕ → Type 0
+Fit [] [] = Unit
+Fit [] (v ∷ vs) = ⊥
+Fit (w ∷ ws) [] = ⊥
+Fit (w ∷ ws) (v ∷ vs) = (v < 2 ^ w) × Fit ws vs

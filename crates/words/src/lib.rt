@@ -1,0 +1,4 @@
+// Numbers in bytes, lowest byte first (`bytes`), and fields of a number (`fields`).
+// What lies past the end reads 0; what does not fit is not stored. No call asks anything of its caller.
+pub mod bytes;
+pub mod fields;
