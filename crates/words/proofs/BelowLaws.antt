@@ -1,7 +1,7 @@
 -- Laws of `anyBelow`, `firstBelow` and `least`: a loop's turn, its end, and what each search means. Assumes nothing.
 use Prim.Native.Nat.{ℕ, zero, suc, _+_, _-_, _<_, _≤_}
 use mathlib.Core.Bool.{Bool, true, false, _||_, or-true, false≢true}
-use mathlib.Core.Logic.{_⊎_, inl, inr, ⊎-elim, _≢_}
+use mathlib.Core.Logic.{_⊎_, ⊎-elim, _≢_}
 use mathlib.Core.Path.{_≡_, refl, sym, ap, _∙_}
 use borrow.Author.Tests.{leb-true, leb-false}
 use lib.Dec.{leb}
@@ -11,6 +11,7 @@ use native.Mathlib.Omega.{arith}
 use Rattle.words.specs.Answers.{orElse}
 use Rattle.words.specs.Below.{anyBelow, firstBelow, least, orOn}
 use Rattle.words.specs.Facts.{IsLeast}
+use Rattle.words.proofs.TestLaws.{or-either, or-neither, never-both}
 use Rattle.words.proofs.AnswerLaws.{else-stop, else-pass, else-zero}
 
 -- below the next number: below this one, or this one
@@ -18,14 +19,6 @@ below-suc : {k n : ℕ} → k < suc n → (k ≡ n) ⊎ (k < n)
 below-suc h = eq-or-lt-of-le (le-of-suc-le-suc h)
 
 -- ---- some number passes
-
-or-cases : (a b : Bool) → (a || b) ≡ true → (a ≡ true) ⊎ (b ≡ true)
-or-cases true b e = inl refl
-or-cases false b e = inr e
-
-or-neither : (a b : Bool) → (a || b) ≡ false → (a ≡ false) × (b ≡ false)
-or-neither true b e = absurd (false≢true (sym e))
-or-neither false b e = (refl, e)
 
 module _ (p : ℕ → Bool) where
   -- a turn of a loop that has found none
@@ -49,7 +42,7 @@ module _ (p : ℕ → Bool) where
   unfolding anyBelow
   any-some zero e = absurd (false≢true e)
   any-some (suc n) e =
-      ⊎-elim (λ a. let r = any-some n a in (r .0, omega (arith, r .1), r .2)) (λ b. (n, omega arith, b)) (or-cases (anyBelow p n) (p n) e)
+      ⊎-elim (λ a. let r = any-some n a in (r .0, omega (arith, r .1), r .2)) (λ b. (n, omega arith, b)) (or-either (anyBelow p n) (p n) e)
 
   -- none is found exactly where none passes
   pub any-all : (n : ℕ) → anyBelow p n ≡ false → (k : ℕ) → k < n → p k ≡ false
@@ -150,7 +143,7 @@ module _ (p : ℕ → Bool) where
 
   -- and no other number is
   not-before : (n k i j : ℕ) → IsLeast p n k i → IsLeast p n k j → i < j → ⊥
-  not-before n k i j a b l = false≢true (sym (b .fail i (a .starts) l) ∙ a .passes (omega (arith, l, b .ends)))
+  not-before n k i j a b l = never-both (a .passes (omega (arith, l, b .ends))) (b .fail i (a .starts) l)
 
   pub least-once : (n k i j : ℕ) → IsLeast p n k i → IsLeast p n k j → i ≡ j
   least-once n k i j a b = by (leb i j) refl

@@ -1,3 +1,4 @@
+pub mod TestLaws
 pub mod NumberLaws
 pub mod StoreLaws
 pub mod FieldLaws
@@ -7,3 +8,4 @@ pub mod AnswerLaws
 pub mod BelowLaws
 pub mod MaskLaws
 pub mod Theorems
+pub mod Cases

@@ -11,7 +11,7 @@ use Rattle.words.specs.Fields.{field, withField}
 use Rattle.words.specs.Tables.{fields, withFields, total, Fit}
 use Rattle.words.proofs.NumberLaws.{number-lt, number-byte}
 use Rattle.words.proofs.StoreLaws.{number-stored, stored-number, stored-byte}
-use Rattle.words.proofs.FieldLaws.{field-with-fit, field-with-below, field-lt, field-mod, field-shift, with-field, with-mod, with-lt}
+use Rattle.words.proofs.FieldLaws.{field-with-fit, field-with-below, field-lt, field-under, field-over, with-field, with-mod, with-lt}
 
 -- ---- read and written
 
@@ -98,6 +98,10 @@ module _ (ws : List ℕ) (n : ℕ) (size : total ws ≡ 8 * n) (xs : List ℕ) (
 
 -- ---- two words side by side: x of m bits below, y above
 
+pub fit-append : (ws us vs ts : List ℕ) → Fit ws vs → Fit us ts → Fit (ws ++ us) (vs ++ ts)
+fit-append [] us [] ts f g = g
+fit-append (w ∷ ws) us (v ∷ vs) ts f g = (f .0, fit-append ws us vs ts (f .1) g)
+
 -- a table's fields one after the other
 fields-append : (p : ℕ) (ws us : List ℕ) (z : ℕ) → fields p (ws ++ us) z ≡ fields p ws z ++ fields (p + total ws) us z
 unfolding fields
@@ -109,17 +113,17 @@ unfolding withFields
 with-append p [] us z [] ts f = rw add-zero
 with-append p (w ∷ ws) us z (v ∷ vs) ts f = rw (← add-assoc) (with-append (p + w) ws us (withField p w z v) vs ts (f .1))
 
--- what lies below place m does not see what lies above it
-fields-mod : (p : ℕ) (ws : List ℕ) (m z : ℕ) → p + total ws ≤ m → fields p ws (z % 2 ^ m) ≡ fields p ws z
+-- the fields below place m are those of x, and from place m on those of y
+fields-under : (m x y : ℕ) → x < 2 ^ m → (p : ℕ) (ws : List ℕ) → p + total ws ≤ m → fields p ws (y * 2 ^ m + x) ≡ fields p ws x
 unfolding fields
-fields-mod p [] m z h = refl
-fields-mod p (w ∷ ws) m z h = ap₂ (λ (a : ℕ) (l : List ℕ). a ∷ l) (field-mod p w m z (omega arith)) (fields-mod (p + w) ws m z (omega arith))
+fields-under m x y h p [] l = refl
+fields-under m x y h p (w ∷ ws) l =
+    ap₂ (λ (a : ℕ) (vs : List ℕ). a ∷ vs) (field-under m x y h p w (omega arith)) (fields-under m x y h (p + w) ws (omega arith))
 
--- from place m on there is the number above it
-fields-shift : (m q : ℕ) (us : List ℕ) (z : ℕ) → fields (m + q) us z ≡ fields q us (z / 2 ^ m)
+fields-over : (m x y : ℕ) → x < 2 ^ m → (q : ℕ) (us : List ℕ) → fields (m + q) us (y * 2 ^ m + x) ≡ fields q us y
 unfolding fields
-fields-shift m q [] z = refl
-fields-shift m q (u ∷ us) z = ap₂ (λ (a : ℕ) (l : List ℕ). a ∷ l) (field-shift m q u z) (rw add-assoc (fields-shift m (q + u) us z))
+fields-over m x y h q [] = refl
+fields-over m x y h q (u ∷ us) = ap₂ (λ (a : ℕ) (vs : List ℕ). a ∷ vs) (field-over m x y h q u) (rw add-assoc (fields-over m x y h (q + u) us))
 
 with-under : (p w m x y v : ℕ) → p + w ≤ m → withField p w (y * 2 ^ m + x) v ≡ y * 2 ^ m + withField p w x v
 unfolding withField
@@ -162,9 +166,8 @@ module _ (ws us : List ℕ) (x y : ℕ) (h : x < 2 ^ total ws) where
   side-read =
       let m : ℕ = total ws in
       let z : ℕ = y * 2 ^ m + x in
-      let less : fields 0 ws z ≡ fields 0 ws x = sym (fields-mod 0 ws m z (omega arith)) ∙ ap (fields 0 ws) (low y m h) in
-      let more : fields (0 + m) us z ≡ fields 0 us y = ap (λ (k : ℕ). fields k us z) (zero-add m ∙ sym (add-zero m)) ∙ fields-shift m 0 us z ∙ ap (fields 0 us) (high y m h) in
-      fields-append 0 ws us z ∙ ap₂ (λ (a b : List ℕ). a ++ b) less more
+      let more : fields (0 + m) us z ≡ fields 0 us y = ap (λ (k : ℕ). fields k us z) (zero-add m ∙ sym (add-zero m)) ∙ fields-over m x y h 0 us in
+      fields-append 0 ws us z ∙ ap₂ (λ (a b : List ℕ). a ++ b) (fields-under m x y h 0 ws (omega arith)) more
 
   pub side-written : (vs ts : List ℕ) → Fit ws vs
       → withFields 0 (ws ++ us) (y * 2 ^ total ws + x) (vs ++ ts) ≡ withFields 0 us y ts * 2 ^ total ws + withFields 0 ws x vs

@@ -1,0 +1,2 @@
+pub mod StructureLaws
+pub mod WalkLaws

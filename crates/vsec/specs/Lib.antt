@@ -1,0 +1,4 @@
+pub mod Structure
+pub mod Walk
+pub mod Told
+pub mod Facts
