@@ -1,16 +1,15 @@
 -- What is proved of the structure and the walk, for every configuration space and every value. Each is to be read without its proof;
 -- proofs/Theorems.antt has a proof of each, under the same name with hyphens.
 -- Assumes nothing.
-use Prim.Native.Nat.{ℕ, zero, suc, _+_, _*_, _/_, _%_, _≤_, _<_}
+use Prim.Native.Nat.{ℕ, suc, _%_, _≤_, _<_}
 use mathlib.Core.Path.{_≡_}
 use mathlib.Core.Logic.{_⊎_, _↔_, _≢_}
-use mathlib.Core.Bool.{Bool, true, false}
+use mathlib.Core.Bool.{false}
 use mathlib.Core.List.{List, [], _∷_}
 use lib.ListN.{length, getD}
 use Rattle.words.specs.Answers.{Answer, refused, gives}
-use Rattle.words.specs.Bytes.{AllBytes, numberAt, stored}
-use Rattle.words.specs.Tables.{withFields}
-use Rattle.vsec.specs.Structure.{vsecAt, values, widths, fixedWrong, tooWide, numbers, readOf, writeNumber, written}
+use Rattle.words.specs.Bytes.{AllBytes, numberAt}
+use Rattle.vsec.specs.Structure.{vsecAt, fixedWrong, tooWide, readNumber, writeNumber, written}
 use Rattle.vsec.specs.Walk.{identifierAt, nextAt, vsecIdAt, walkOf}
 use Rattle.vsec.specs.declared.structure.Vsec.{Vsec}
 
@@ -41,19 +40,19 @@ pub record StructureTests (v : Vsec) : Type 0 where
 
 -- Reading and writing, each number exactly on its condition and none tested before it.
 pub record StructureAnswers (s : List ℕ) (v : Vsec) : Type 0 where
-  pub read-short : (readOf s ≡ refused 25) ↔ (length s < 16)
-  pub read-wrong : (readOf s ≡ refused 5) ↔ ((16 ≤ length s) × (fixedWrong (vsecAt s 0) ≡ true))
-  pub read-right : (readOf s ≡ gives (numbers (vsecAt s 0))) ↔ ((16 ≤ length s) × Fixed (vsecAt s 0))
+  pub read-short : (readNumber s ≡ 25) ↔ (length s < 16)
+  pub read-wrong : (readNumber s ≡ 5) ↔ ((16 ≤ length s) × (Fixed (vsecAt s 0) → ⊥))
+  pub read-right : (readNumber s ≡ 0) ↔ ((16 ≤ length s) × Fixed (vsecAt s 0))
   pub write-short : (writeNumber s v ≡ 25) ↔ (length s < 16)
-  pub write-wrong : (writeNumber s v ≡ 5) ↔ ((16 ≤ length s) × (fixedWrong v ≡ true))
-  pub write-wide : (writeNumber s v ≡ 17) ↔ ((16 ≤ length s) × Fixed v × (tooWide v ≡ true))
+  pub write-wrong : (writeNumber s v ≡ 5) ↔ ((16 ≤ length s) × (Fixed v → ⊥))
+  pub write-wide : (writeNumber s v ≡ 17) ↔ ((16 ≤ length s) × Fixed v × (Narrow v → ⊥))
   pub write-right : (writeNumber s v ≡ 0) ↔ ((16 ≤ length s) × Fixed v × Narrow v)
   pub refused-kept : writeNumber s v ≢ 0 → written s v ≡ s
 
 -- Round trips: what is read and written back, here or to another part, is the same bits; what is written and read back is the same
 -- value; bytes past the structure stay.
 pub record StructureTrips (s : List ℕ) : Type 0 where
-  pub accepted : readOf s ≡ gives (numbers (vsecAt s 0)) → (z : List ℕ) → 16 ≤ length z → writeNumber z (vsecAt s 0) ≡ 0
+  pub accepted : readNumber s ≡ 0 → (z : List ℕ) → 16 ≤ length z → writeNumber z (vsecAt s 0) ≡ 0
   pub back : AllBytes s → written s (vsecAt s 0) ≡ s
   pub carried : AllBytes s → (z : List ℕ) → writeNumber z (vsecAt s 0) ≡ 0 → (k : ℕ) → k < 16 → getD (written z (vsecAt s 0)) k 0 ≡ getD s k 0
   pub kept : (v : Vsec) → writeNumber s v ≡ 0 → vsecAt (written s v) 0 ≡ v

@@ -1,13 +1,13 @@
 -- Laws of `unless`, `first` and `earliest`: a chain of tests, test by test; stages, one by one; and back again. Assumes nothing.
 use Prim.Native.Nat.{ℕ, zero, suc, _≤_}
-use mathlib.Core.Path.{_≡_, refl, ap, sym, _∙_}
+use mathlib.Core.Path.{_≡_, refl, ap, sym, _∙_, subst}
 use mathlib.Core.Logic.{_≢_}
 use mathlib.Core.List.{List, [], _∷_, _++_}
-use mathlib.Core.Bool.{Bool, true, false, _&&_, cond}
+use mathlib.Core.Bool.{Bool, true, false, not, _&&_, cond}
 use native.Mathlib.Omega.{arith}
-use lib.Dec.{T, ltb, ltb→lt, leb, leb→le}
+use lib.Dec.{T, T-not, ltb, ltb→lt, leb, leb→le, eqb, eqb-refl}
 use Rattle.words.specs.Answers.{Answer, refused, gives, unless, first, orElse, earliest}
-use Rattle.words.specs.Facts.{NoneHolds, Decides, numbered}
+use Rattle.words.specs.Facts.{NoneHolds, Decides, numbered, fresh}
 
 -- ---- an answer and its number
 
@@ -31,6 +31,10 @@ unless-refused (suc n) xs e = (cc, λ h. let z : suc n ≡ 0 = cc in omega arith
 T-both : (a b : Bool) → T (a && b) → T a × T b
 T-both true b h = (tt, h)
 T-both false b h = absurd h
+
+both-T : (a b : Bool) → T a → T b → T (a && b)
+both-T true b f g = g
+both-T false b f g = absurd f
 
 -- a test that fails is passed over, one that holds decides: a chain of refusals, test by test
 pub first-skip : {b : Bool} (n : ℕ) (ts : List (Bool × ℕ)) → b ≡ false → first ((b, n) ∷ ts) ≡ first ts
@@ -75,6 +79,30 @@ first-decides ((false, m) ∷ ts) e h =
 -- and it comes back wherever that is so
 pub decides-first : (ts : List (Bool × ℕ)) (n : ℕ) → Decides ts n → first ts ≡ n
 decides-first ts n w = ap first (w .split) ∙ first-wins (w .before) (w .after) n (w .fail)
+
+-- a number that no test has does not come
+fresh-never : (ts : List (Bool × ℕ)) (n : ℕ) → n ≢ 0 → T (fresh n ts) → first ts ≢ n
+unfolding first
+fresh-never [] n h f e = h (sym e)
+fresh-never ((true, m) ∷ ts) n h f e = T-not (eqb n m) (T-both (not (eqb n m)) (fresh n ts) f .0) (subst (λ (k : ℕ). T (eqb n k)) (sym e) (eqb-refl n))
+fresh-never ((false, m) ∷ ts) n h f e = fresh-never ts n h (T-both (not (eqb n m)) (fresh n ts) f .1) e
+
+-- one that only one test has comes exactly if that test holds and none before it
+pub first-exactly : (ts : List (Bool × ℕ)) (b : Bool) (n : ℕ) (us : List (Bool × ℕ)) → n ≢ 0 → T (fresh n ts && fresh n us)
+    → (first (ts ++ (b, n) ∷ us) ≡ n) → NoneHolds ts × (b ≡ true)
+unfolding first
+first-exactly [] true n us h f e = (tt, refl)
+first-exactly [] false n us h f e = absurd (fresh-never us n h f e)
+first-exactly ((true, m) ∷ ts) b n us h f e =
+    let d = T-both (not (eqb n m)) (fresh n ts) (T-both (not (eqb n m) && fresh n ts) (fresh n us) f .0) .0 in
+    absurd (T-not (eqb n m) d (subst (λ (k : ℕ). T (eqb n k)) (sym e) (eqb-refl n)))
+first-exactly ((false, m) ∷ ts) b n us h f e = by (T-both (not (eqb n m) && fresh n ts) (fresh n us) f) (first-exactly ts b n us h)
+  where
+    by : T (not (eqb n m) && fresh n ts) × T (fresh n us) → (T (fresh n ts && fresh n us) → first (ts ++ (b, n) ∷ us) ≡ n → NoneHolds ts × (b ≡ true))
+        → NoneHolds ((false, m) ∷ ts) × (b ≡ true)
+    by g rest =
+        let r = rest (both-T (fresh n ts) (fresh n us) (T-both (not (eqb n m)) (fresh n ts) (g .0) .1) (g .1)) e in
+        ((refl, r .0), r .1)
 
 -- no number of the list passes b, so the answer does not
 abbrev pub upto : ℕ → List (Bool × ℕ) → Bool

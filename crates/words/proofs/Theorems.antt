@@ -3,21 +3,21 @@ use Prim.Native.Nat.{ℕ, _+_, _*_, _^_, _≤_, _<_}
 use mathlib.Core.Path.{_≡_, refl, sym, ap, _∙_}
 use mathlib.Core.Logic.{_⊎_, inl, inr, _≢_}
 use mathlib.Core.Bool.{Bool, true, false}
-use mathlib.Core.List.{List, [], _∷_}
+use mathlib.Core.List.{List, [], _∷_, _++_}
 use native.Mathlib.Nat.{add-comm, mul-comm}
 use native.Mathlib.Omega.{arith}
 use lib.Dec.{T}
 use Rattle.words.specs.Bytes.{numberAt}
 use Rattle.words.specs.Fields.{withField, bit}
 use Rattle.words.specs.Tables.{withFields, total}
-use Rattle.words.specs.Answers.{unless, gives, refused, earliest}
+use Rattle.words.specs.Answers.{unless, gives, first}
 use Rattle.words.specs.Below.{firstBelow, least}
-use Rattle.words.specs.Facts.{NumberFact, StoreFact, FieldFact, BesideFact, SameBits, RoundTrips, SideBySide, StoredTwo, FirstFact, Decides, UnlessFact, EarliestFact, AnyFact, FaultFact, IsLeast, LeastFact, MaskFact}
+use Rattle.words.specs.Facts.{NumberFact, StoreFact, FieldFact, BesideFact, SameBits, RoundTrips, SideBySide, StoredTwo, ExactFact, FirstFact, Decides, UnlessFact, EarliestFact, AnyFact, FaultFact, IsLeast, LeastFact, MaskFact}
 use Rattle.words.proofs.NumberLaws.{number-byte, number-lt, number-past, number-split}
 use Rattle.words.proofs.StoreLaws.{stored-byte, stored-other, length-stored, stored-short, number-stored, stored-number, stored-stored, stored-two}
 use Rattle.words.proofs.FieldLaws.{field-with, field-with-inside, field-with-below, field-with-above, field-lt, with-field, with-with, with-lt, same-bits}
 use Rattle.words.proofs.TableLaws.{structure-back, structure-kept, structure-carried, side-read, side-written}
-use Rattle.words.proofs.AnswerLaws.{unless-number, unless-gives, unless-refused, first-decides, decides-first, first-none, first-zero, earliest-pass, earliest-stop, earliest-zero, earliest-end}
+use Rattle.words.proofs.AnswerLaws.{first-exactly, first-wins, unless-number, unless-gives, unless-refused, first-decides, decides-first, first-none, first-zero, earliest-pass, earliest-stop, earliest-zero, earliest-end}
 use Rattle.words.proofs.BelowLaws.{any-some, any-found, any-all, all-any, fault-all, all-fault, fault-some, fault-stop, is-least, least-once}
 use Rattle.words.proofs.MaskLaws.{mask-bit, mask-lt, ones-mask}
 
@@ -91,6 +91,9 @@ first-fact ts =
       none = λ p. (first-zero ts p, first-none ts);
       unique = λ m n p a b. sym (decides-first ts m a) ∙ decides-first ts n b;
     }
+
+pub exact-fact : (ts : List (Bool × ℕ)) (b : Bool) (n : ℕ) (us : List (Bool × ℕ)) → ExactFact ts b n us
+exact-fact ts b n us h f = (first-exactly ts b n us h f, λ r. ap (λ (x : Bool). first (ts ++ (x, n) ∷ us)) (r .1) ∙ first-wins ts us n (r .0))
 
 pub unless-fact : (n : ℕ) (vs : List ℕ) → UnlessFact n vs
 unless-fact n vs =

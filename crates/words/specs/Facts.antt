@@ -4,10 +4,10 @@
 use Prim.Native.Nat.{ℕ, zero, suc, _+_, _*_, _/_, _%_, _^_, _≤_, _<_}
 use mathlib.Core.Path.{_≡_}
 use mathlib.Core.Logic.{_⊎_, _↔_, _≢_}
-use mathlib.Core.Bool.{Bool, true, false, _&&_}
+use mathlib.Core.Bool.{Bool, true, false, not, _&&_}
 use mathlib.Core.List.{List, [], _∷_, _++_}
 use lib.ListN.{length, getD}
-use lib.Dec.{T, ltb}
+use lib.Dec.{T, ltb, eqb}
 use lib.Count.{ones}
 use Rattle.words.specs.Bytes.{AllBytes, numberAt, stored}
 use Rattle.words.specs.Fields.{field, withField, bit}
@@ -101,6 +101,15 @@ pub record Decides (ts : List (Bool × ℕ)) (n : ℕ) : Type 0 where
 abbrev pub numbered : List (Bool × ℕ) → Bool
 numbered [] = true
 numbered (t ∷ ts) = ltb 0 (t .1) && numbered ts
+
+-- n is none of the numbers of a list; of a list that is written out `tt` proves it
+abbrev pub fresh : ℕ → List (Bool × ℕ) → Bool
+fresh n [] = true
+fresh n (t ∷ ts) = not (eqb n (t .1)) && fresh n ts
+
+-- A test with a number of its own, after the tests ts and before the tests us: its number comes exactly if it holds and none of ts does.
+abbrev pub ExactFact : List (Bool × ℕ) → Bool → ℕ → List (Bool × ℕ) → Type 0
+ExactFact ts b n us = n ≢ 0 → T (fresh n ts && fresh n us) → (first (ts ++ (b, n) ∷ us) ≡ n) ↔ (NoneHolds ts × (b ≡ true))
 
 -- A chain of tests: complete, since some number always comes; a number of the table comes exactly if its test holds and none before it;
 -- 0 comes exactly if none holds.

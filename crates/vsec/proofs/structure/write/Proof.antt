@@ -40,8 +40,7 @@ returns-2 c =
     let low = c .before .before .before .before .before .before .before in
     let e = low .before .before .before in
     let a = e .before .before .before .before .args in
-    let accepted : writeNumber (a .part .now) (a .v) ≡ 0 = sym (e .before .refusal .ensures) ∙ e .if1 .left in
-    (
+    let accepted : writeNumber (a .part .now) (a .v) ≡ 0 = sym (e .before .refusal .ensures) ∙ e .if1 .left in (
       sym accepted,
       c .before .before .store-u642 .ensures
           ∙ ap₂ (λ (xs : List ℕ) (x : ℕ). stored xs 8 8 x) (low .store-u64 .ensures ∙ ap (stored (a .part .now) 0 8) (low .before .low-word .ensures)) (c .before .before .before .high-word .ensures)

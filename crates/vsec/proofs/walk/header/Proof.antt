@@ -51,8 +51,7 @@ unfolding vsecIdAt
 returns-2 c =
     let e = c .before .before .before in
     let f = e .before .before in
-    let a = f .before .before .before .before .args in
-    (
+    let a = f .before .before .before .before .args in (
       ap stops (c .taken .ensures)
           ∙ sym (header-tpmi (a .config .now) (a .at) (sym (identifier f) ∙ e .before .if1 .taken) (e .if2 .left) (sym (c .before .before .u16-at .ensures) ∙ c .before .if3 .taken)),
       tt,
@@ -65,8 +64,7 @@ returns-3 : tie.Need-returns-3
 unfolding vsecIdAt
 returns-3 c =
     let f = c .before .before in
-    let a = f .before .before .before .before .args in
-    (
+    let a = f .before .before .before .before .args in (
       c .follow .ensures .0 ∙ ap followed (next f)
           ∙ sym (⊎-elim (λ w. header-other-id (a .config .now) (a .at) (w .1 .left) (λ z. w .3 .left (w .2 .ensures ∙ z))) (λ w. header-other (a .config .now) (a .at) (λ z. w .left (identifier f ∙ z))) (c .before .if1 .came)),
       c .follow .ensures .1,
