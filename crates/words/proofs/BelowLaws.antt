@@ -1,6 +1,6 @@
 -- Laws of `anyBelow`, `firstBelow` and `least`: a loop's turn, its end, and what each search means. Assumes nothing.
 use Prim.Native.Nat.{ℕ, zero, suc, _+_, _-_, _<_, _≤_}
-use mathlib.Core.Bool.{Bool, true, false, _||_, or-true, false≢true}
+use mathlib.Core.Bool.{Bool, true, false, _||_, or-true, or-false, false≢true}
 use mathlib.Core.Logic.{_⊎_, ⊎-elim, _≢_}
 use mathlib.Core.Path.{_≡_, refl, sym, ap, _∙_}
 use borrow.Author.Tests.{leb-true, leb-false}
@@ -21,10 +21,13 @@ below-suc h = eq-or-lt-of-le (le-of-suc-le-suc h)
 -- ---- some number passes
 
 module _ (p : ℕ → Bool) where
-  -- a turn of a loop that has found none
-  pub any-more : (k : ℕ) → anyBelow p k ≡ false → p k ≡ false → anyBelow p (k + 1) ≡ false
+  -- a turn of a loop whose number does not pass; and one that has found none
+  pub any-skip : (k : ℕ) → p k ≡ false → anyBelow p (k + 1) ≡ anyBelow p k
   unfolding anyBelow
-  any-more k a b = rw (add-one, a) b
+  any-skip k b = rw (add-one, b) (or-false (anyBelow p k))
+
+  pub any-more : (k : ℕ) → anyBelow p k ≡ false → p k ≡ false → anyBelow p (k + 1) ≡ false
+  any-more k a b = any-skip k b ∙ a
 
   pub any-none : anyBelow p 0 ≡ false
   unfolding anyBelow

@@ -1,0 +1,39 @@
+-- `entries::entry::word_of` meets its contract: one field after the other. Assumes nothing.
+use Rattle.words.specs.Tables.{withFields}
+use borrow.Author.Needs.{needs}
+use Rattle.entries.proofs.entry.word_of.Statement.{statement}
+use Rattle.entries.proofs.entry.word_of.Tie as tie
+
+with-field-requires : tie.Need-with-field-requires
+with-field-requires c κs = search needs
+
+with-field-requires-2 : tie.Need-with-field-requires-2
+with-field-requires-2 c κs = search needs
+
+with-field-requires-3 : tie.Need-with-field-requires-3
+with-field-requires-3 c κs = search needs
+
+with-field-requires-4 : tie.Need-with-field-requires-4
+with-field-requires-4 c κs = search needs
+
+with-field-requires-5 : tie.Need-with-field-requires-5
+with-field-requires-5 c κs = search needs
+
+with-field-requires-6 : tie.Need-with-field-requires-6
+with-field-requires-6 c κs = search needs
+
+returns : tie.Need-returns
+unfolding withFields
+returns c = cc
+
+pub word-of-spec : {M : Type 1} → statement M
+word-of-spec =
+    tie.close
+    (tie.spec
+    with-field-requires
+    with-field-requires-2
+    with-field-requires-3
+    with-field-requires-4
+    with-field-requires-5
+    with-field-requires-6
+    returns)

@@ -1,0 +1,4 @@
+pub mod Entry
+pub mod Told
+pub mod Faults
+pub mod Facts
