@@ -5,12 +5,13 @@ use mathlib.Core.Bool.{true, false}
 use mathlib.Core.List.{List, [], _∷_}
 use mathlib.Core.Logic.{_≢_}
 use native.Mathlib.Omega.{arith}
-use borrow.Author.Tests.{lt-ltb, le-ltb, eq-eqb, ne-eqb, ltb-false}
+use borrow.Author.Tests.{lt-ltb, le-ltb, ltb-false}
 use lib.ListN.{length}
 use Rattle.words.specs.Answers.{refused, gives, unless}
 use Rattle.words.specs.Bytes.{stored}
 use Rattle.words.specs.Fields.{field}
 use Rattle.words.specs.Tables.{fields, withFields, Fit}
+use Rattle.words.proofs.Structures.{unless-refused, unless-accepted}
 use Rattle.words.proofs.TestLaws.{or-skip, or-neither}
 use Rattle.words.proofs.AnswerLaws.{first-skip, first-take, first-end, first-zero}
 use Rattle.entries.specs.Entry.{widths, entryOf, entryAt, values, readOf, tooWide, writeNumber, written}
@@ -81,8 +82,8 @@ module _ (s : List ℕ) (e : Entry) where
 
   pub written-refused : writeNumber s e ≢ 0 → written s e ≡ s
   unfolding written
-  written-refused h = rw (ne-eqb (writeNumber s e) 0 h)
+  written-refused = unless-refused (writeNumber s e) 8 widths (values e) s
 
   pub written-accepted : writeNumber s e ≡ 0 → written s e ≡ stored s 0 8 (withFields 0 widths 0 (values e))
   unfolding written
-  written-accepted z = rw (eq-eqb (writeNumber s e) 0 z)
+  written-accepted = unless-accepted (writeNumber s e) 8 widths (values e) s

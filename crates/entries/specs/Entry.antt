@@ -9,14 +9,14 @@
 --   written s e       what the part holds then: the 8 bytes, and the rest as it was; all as it was where it is refused
 -- Assumes nothing.
 use Prim.Native.Nat.{ℕ}
-use mathlib.Core.Bool.{Bool, cond, _||_}
+use mathlib.Core.Bool.{Bool, _||_}
 use mathlib.Core.List.{List, [], _∷_}
-use lib.Dec.{ltb, eqb}
+use lib.Dec.{ltb}
 use lib.ListN.{length}
 use Rattle.words.specs.Answers.{Answer, gives, unless, first}
-use Rattle.words.specs.Bytes.{numberAt, stored}
+use Rattle.words.specs.Bytes.{numberAt}
 use Rattle.words.specs.Fields.{field}
-use Rattle.words.specs.Tables.{withFields}
+use Rattle.words.specs.Tables.{writtenUnless}
 use Rattle.entries.specs.declared.entry.Entry.{Entry}
 
 -- TPMI_ID, NumEntries, EntrySize, CapOffset, Attribute, reserved
@@ -52,4 +52,4 @@ unfoldable pub writeNumber : List ℕ → Entry → ℕ
 writeNumber s e = first ((ltb (length s) 8, 25) ∷ (tooWide e, 17) ∷ [])
 
 unfoldable pub written : List ℕ → Entry → List ℕ
-written s e = cond (eqb (writeNumber s e) 0) (stored s 0 8 (withFields 0 widths 0 (values e))) s
+written s e = writtenUnless (writeNumber s e) 8 widths (values e) s

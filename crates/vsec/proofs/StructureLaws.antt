@@ -6,12 +6,13 @@ use mathlib.Core.List.{List, [], _∷_, _++_}
 use mathlib.Core.Logic.{_≢_}
 use native.Mathlib.Nat.{mul-div-cancel, zero-lt-suc}
 use native.Mathlib.Omega.{arith}
-use borrow.Author.Tests.{lt-ltb, le-ltb, eq-eqb, ne-eqb, ltb-false, eqb-true, not-false}
+use borrow.Author.Tests.{lt-ltb, le-ltb, ltb-false, eqb-true, not-false}
 use lib.ListN.{length}
 use Rattle.words.specs.Answers.{refused, gives, unless}
 use Rattle.words.specs.Bytes.{numberAt, stored}
 use Rattle.words.specs.Fields.{field}
 use Rattle.words.specs.Tables.{fields, withFields, Fit}
+use Rattle.words.proofs.Structures.{unless-refused, unless-accepted}
 use Rattle.words.proofs.TestLaws.{as-must, or-skip, or-neither}
 use Rattle.words.proofs.AnswerLaws.{first-skip, first-take, first-end, first-zero}
 use Rattle.words.proofs.NumberLaws.{number-past, number-split}
@@ -173,11 +174,11 @@ module _ (s : List ℕ) (v : Vsec) where
 
   pub written-refused : writeNumber s v ≢ 0 → written s v ≡ s
   unfolding written
-  written-refused h = rw (ne-eqb (writeNumber s v) 0 h)
+  written-refused = unless-refused (writeNumber s v) 16 widths (values v) s
 
   pub written-accepted : writeNumber s v ≡ 0 → written s v ≡ stored s 0 16 (withFields 0 widths 0 (values v))
   unfolding written
-  written-accepted e = rw (eq-eqb (writeNumber s v) 0 e)
+  written-accepted = unless-accepted (writeNumber s v) 16 widths (values v) s
 
   -- two words stored one after the other are the structure written
   pub written-words : writeNumber s v ≡ 0

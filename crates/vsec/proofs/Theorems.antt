@@ -1,42 +1,34 @@
 -- Each theorem of Facts.antt, under its name; and that two answers that say the same are the same. Assumes nothing.
-use Prim.Native.Nat.{ℕ, zero, suc, _+_, _-_, _*_, _/_, _%_, _^_, _≤_, _<_}
-use mathlib.Core.Path.{_≡_, refl, sym, ap, _∙_, subst}
-use mathlib.Core.Bool.{Bool, true, false, cond}
+use Prim.Native.Nat.{ℕ, _*_, _/_, _%_, _≤_}
+use mathlib.Core.Path.{_≡_, refl, sym, ap, _∙_}
+use mathlib.Core.Bool.{Bool, false}
 use mathlib.Core.List.{List, [], _∷_}
-use mathlib.Core.Logic.{_⊎_, inl, inr, ⊎-elim, _↔_, _≢_}
-use native.Mathlib.Nat.{zero-add}
 use native.Mathlib.Omega.{arith}
 use borrow.Author.Tests.{lt-ltb, le-ltb, ltb-true, ltb-false}
-use lib.Dec.{lit<, ltb, eqb}
+use lib.Dec.{ltb}
 use lib.ListN.{length, getD}
 use Rattle.words.specs.Answers.{Answer, refused, gives}
-use Rattle.words.specs.Bytes.{AllBytes, numberAt, stored}
-use Rattle.words.specs.Tables.{fields, withFields}
-use Rattle.words.proofs.TestLaws.{never-both}
+use Rattle.words.specs.Tables.{Fit}
+use Rattle.words.proofs.TestLaws.{fails-exactly}
 use Rattle.words.proofs.AnswerLaws.{first-none, first-zero}
-use Rattle.words.proofs.StoreLaws.{stored-other}
 use Rattle.words.proofs.FieldLaws.{field-lt}
-use Rattle.words.proofs.TableLaws.{fit-append, structure-same, structure-back, structure-kept, structure-carried}
+use Rattle.words.proofs.TableLaws.{fit-append}
+use Rattle.words.proofs.Structures.{value-trips}
 use Rattle.words.proofs.Theorems.{exact-fact}
 use Rattle.vsec.specs.Structure.{vsecOf, vsecAt, values, widths, lowWidths, highWidths, lowValues, highValues, fixedWrong, tooWide, readNumber, writeNumber, written}
 use Rattle.vsec.specs.Told.{decoded, walked}
-use Rattle.vsec.specs.Facts.{Fixed, Narrow, StructureTests, StructureAnswers, StructureTrips}
+use Rattle.vsec.specs.Facts.{Narrow, StructureTests, StructureAnswers, StructureTrips, structureIn}
 use Rattle.vsec.specs.declared.structure.Vsec.{Vsec}
 use Rattle.vsec.specs.declared.structure.Decoded.{Decoded}
 use Rattle.vsec.specs.declared.structure.Decoded.the-variants as decode
 use Rattle.vsec.specs.declared.walk.Walked.{Walked}
 use Rattle.vsec.specs.declared.walk.Walked.the-variants.{Taken, Refused}
-use Rattle.vsec.proofs.StructureLaws.{fixed-right, right-fixed, narrow-right, right-narrow, low-fits, high-fits, values-of, write-right, accepted, written-refused, written-accepted}
+use Rattle.vsec.proofs.StructureLaws.{fixed-right, right-fixed, narrow-right, right-narrow, low-fits, high-fits, values-of, write-right, accepted}
 
 -- ---- the structure
 
 pub structure-tests : (v : Vsec) → StructureTests v
 structure-tests v = record { fixed = (fixed-right v, right-fixed v); narrow = (narrow-right v, right-narrow v) }
-
--- a test that fails exactly where a statement holds, holds exactly where it does not
-pub turned : {P : Type 0} (b : Bool) → ((b ≡ false) ↔ P) → (b ≡ true) ↔ (P → ⊥)
-turned true e = (λ z p. never-both refl (e .1 p), λ h. refl)
-turned false e = (λ z p. never-both z refl, λ h. absurd (h (e .0 refl)))
 
 pub structure-answers : (s : List ℕ) (v : Vsec) → StructureAnswers s v
 unfolding readNumber writeNumber
@@ -55,16 +47,15 @@ structure-answers s v =
     let enough : 16 ≤ length s → short ≡ false = le-ltb (length s) 16 in
     record {
       read-short = (λ e. ltb-true _ _ (r25 .0 e .1), λ h. r25 .1 (tt, lt-ltb _ _ h));
-      read-wrong = (λ e. let d = r5 .0 e in (room (d .0 .0), turned _ fixed-w .0 (d .1)), λ h. r5 .1 ((enough (h .0), tt), turned _ fixed-w .1 (h .1)));
+      read-wrong = (λ e. let d = r5 .0 e in (room (d .0 .0), fails-exactly _ fixed-w .0 (d .1)), λ h. r5 .1 ((enough (h .0), tt), fails-exactly _ fixed-w .1 (h .1)));
       read-right = (λ e. let f = first-zero _ tt e in (room (f .0), fixed-w .0 (f .1 .0)), λ h. first-none _ (enough (h .0), (fixed-w .1 (h .1), tt)));
       write-short = (λ e. ltb-true _ _ (w25 .0 e .1), λ h. w25 .1 (tt, lt-ltb _ _ h));
-      write-wrong = (λ e. let d = w5 .0 e in (room (d .0 .0), turned _ fixed-v .0 (d .1)), λ h. w5 .1 ((enough (h .0), tt), turned _ fixed-v .1 (h .1)));
+      write-wrong = (λ e. let d = w5 .0 e in (room (d .0 .0), fails-exactly _ fixed-v .0 (d .1)), λ h. w5 .1 ((enough (h .0), tt), fails-exactly _ fixed-v .1 (h .1)));
       write-wide = (
-        λ e. let d = w17 .0 e in (room (d .0 .0), fixed-v .0 (d .0 .1 .0), turned _ narrow-v .0 (d .1)),
-        λ h. w17 .1 ((enough (h .0), (fixed-v .1 (h .1), tt)), turned _ narrow-v .1 (h .2)),
+        λ e. let d = w17 .0 e in (room (d .0 .0), fixed-v .0 (d .0 .1 .0), fails-exactly _ narrow-v .0 (d .1)),
+        λ h. w17 .1 ((enough (h .0), (fixed-v .1 (h .1), tt)), fails-exactly _ narrow-v .1 (h .2)),
       );
       write-right = (accepted s v, λ h. write-right s v (h .0) (right-fixed v (h .1)) (right-narrow v (h .2)));
-      refused-kept = written-refused s v;
     }
 
 -- what is read is narrow, whatever the bytes
@@ -119,44 +110,18 @@ values-once v w a b e = sym (back v a) ∙ ap rebuilt e ∙ back w b
           offset = k;
         }) whole
 
--- what holds of the part as it was, and of the part with the structure in it, holds of what is written
-written-either : (P : List ℕ → Type 0) (s : List ℕ) (v : Vsec) → P (stored s 0 16 (withFields 0 widths 0 (values v))) → P s → P (written s v)
-unfolding written
-written-either P s v a b = by (eqb (writeNumber s v) 0)
-  where
-    by : (t : Bool) → P (cond t (stored s 0 16 (withFields 0 widths 0 (values v))) s)
-    by true = a
-    by false = b
-
--- the word written from a structure that was read is written from its fields
-word-of-read : (s : List ℕ) → withFields 0 widths 0 (values (vsecAt s 0)) ≡ withFields 0 widths 0 (fields 0 widths (numberAt s 0 16))
-unfolding vsecAt
-word-of-read s = ap (withFields 0 widths 0) (values-of (numberAt s 0 16))
-
-kept-value : (s : List ℕ) (v : Vsec) → writeNumber s v ≡ 0 → vsecAt (written s v) 0 ≡ v
-unfolding vsecAt
-kept-value s v e =
-    let a = accepted s v e in
-    let fits = fit-append lowWidths highWidths (lowValues v) (highValues v) (low-fits v (a .1) (a .2)) (high-fits v (a .1) (a .2)) in
-    let x : ℕ = numberAt (written s v) 0 16 in
-    let same : values (vsecOf x) ≡ values v =
-    values-of x ∙ ap (λ (z : List ℕ). fields 0 widths (numberAt z 0 16)) (written-accepted s v e) ∙ structure-kept widths 16 refl s 0 0 (lit< tt) (values v) fits (a .0) in
-    values-once (vsecOf x) v (narrow-of x .multiple) (a .2 .multiple) same
-
 pub structure-trips : (s : List ℕ) → StructureTrips s
-unfolding vsecAt
+unfolding vsecAt written
 structure-trips s =
     record {
-      accepted = λ e z h. let f = structure-answers s (vsecAt s 0) .read-right .0 e in write-right z (vsecAt s 0) h (right-fixed _ (f .1)) (right-narrow _ (narrow-of _));
-      back = λ b. written-either (λ z. z ≡ s) s (vsecAt s 0) (ap (stored s 0 16) (word-of-read s) ∙ structure-back widths 16 refl s 0 0 (lit< tt) b) refl;
-      carried = λ b z e k h. ap (λ (l : List ℕ). getD l k 0) (written-accepted z (vsecAt s 0) e ∙ ap (stored z 0 16) (word-of-read s)) ∙ carried b z (accepted z (vsecAt s 0) e .0) k h;
-      kept = kept-value s;
-      past = λ v k h. written-either (λ z. getD z k 0 ≡ getD s k 0) s v (stored-other s 0 16 _ k (inr h)) refl;
+      accepted = λ e z h. let f = structure-answers s (structureIn s) .read-right .0 e in write-right z (structureIn s) h (right-fixed _ (f .1)) (right-narrow _ (narrow-of _));
+      trips = value-trips widths 16 refl values vsecOf writeNumber values-of fits (λ z v h x. values-once (vsecOf x) v (narrow-of x .multiple) (accepted z v h .2 .multiple)) s;
     }
   where
-    carried : AllBytes s → (z : List ℕ) → 16 ≤ length z → (k : ℕ) → k < 16
-        → getD (stored z 0 16 (withFields 0 widths 0 (fields 0 widths (numberAt s 0 16)))) k 0 ≡ getD s k 0
-    carried b z h k l = subst (λ (j : ℕ). getD (stored z 0 16 (withFields 0 widths 0 (fields 0 widths (numberAt s 0 16)))) j 0 ≡ getD s j 0) (zero-add k) (structure-carried widths 16 refl s 0 0 (lit< tt) b z 0 h k l)
+    fits : (z : List ℕ) (v : Vsec) → writeNumber z v ≡ 0 → (16 ≤ length z) × Fit widths (values v)
+    fits z v h =
+        let a = accepted z v h in
+        (a .0, fit-append lowWidths highWidths (lowValues v) (highValues v) (low-fits v (a .1) (a .2)) (high-fits v (a .1) (a .2)))
 
 -- ---- two answers that say the same are the same
 

@@ -9,13 +9,14 @@ use borrow.Author.Tests.{ltb-true, ltb-false, eqb-true, eqb-false}
 use lib.Dec.{ltb, leb, eqb}
 use Rattle.words.specs.Answers.{Answer, refused, gives}
 use Rattle.words.specs.Bytes.{numberAt}
+use Rattle.words.proofs.TestLaws.{fails-exactly}
 use Rattle.vsec.specs.Structure.{vsecAt, fixedWrong}
 use Rattle.vsec.specs.Walk.{Header, stops, goes, identifierAt, nextAt, vsecIdAt, followed, takenAt, headerAt, onward, walkFrom, walkOf}
 use Rattle.vsec.specs.Facts.{Fixed, Begun, Passed, Sound, Reached, Tpmi, Ends, WalkFact}
 use Rattle.vsec.specs.Facts.Reached.{here, on}
 use Rattle.vsec.specs.Facts.Ends.{empty, ended, malformed, endless, cut, over, wrong, taken}
 use Rattle.vsec.proofs.StructureLaws.{right-fixed}
-use Rattle.vsec.proofs.Theorems.{turned, structure-tests}
+use Rattle.vsec.proofs.Theorems.{structure-tests}
 use Rattle.vsec.proofs.WalkLaws.{followed-end, followed-low, followed-odd, followed-on, taken-high, taken-wrong, taken-sound, header-cut, header-tpmi, header-other-id, header-other, walk-zeros, walk-ones, walk-begins, walk-out}
 
 -- ---- one header, and one next offset
@@ -60,7 +61,7 @@ module _ (s : List ℕ) (a : ℕ) where
       by false e = followed-odd _ h (λ o. q (ltb-false _ _ e, o))
 
   fixed-test : (fixedWrong (vsecAt s a) ≡ true → (Fixed (vsecAt s a) → ⊥)) × ((Fixed (vsecAt s a) → ⊥) → fixedWrong (vsecAt s a) ≡ true)
-  fixed-test = turned (fixedWrong (vsecAt s a)) (structure-tests (vsecAt s a) .fixed)
+  fixed-test = fails-exactly (fixedWrong (vsecAt s a)) (structure-tests (vsecAt s a) .fixed)
 
 -- ---- from the walk to the list
 

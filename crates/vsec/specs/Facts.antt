@@ -6,9 +6,10 @@ use mathlib.Core.Path.{_≡_}
 use mathlib.Core.Logic.{_⊎_, _↔_, _≢_}
 use mathlib.Core.Bool.{false}
 use mathlib.Core.List.{List, [], _∷_}
-use lib.ListN.{length, getD}
+use lib.ListN.{length}
 use Rattle.words.specs.Answers.{Answer, refused, gives}
-use Rattle.words.specs.Bytes.{AllBytes, numberAt}
+use Rattle.words.specs.Bytes.{numberAt}
+use Rattle.words.specs.Facts.{ValueTrips}
 use Rattle.vsec.specs.Structure.{vsecAt, fixedWrong, tooWide, readNumber, writeNumber, written}
 use Rattle.vsec.specs.Walk.{identifierAt, nextAt, vsecIdAt, walkOf}
 use Rattle.vsec.specs.declared.structure.Vsec.{Vsec}
@@ -47,16 +48,14 @@ pub record StructureAnswers (s : List ℕ) (v : Vsec) : Type 0 where
   pub write-wrong : (writeNumber s v ≡ 5) ↔ ((16 ≤ length s) × (Fixed v → ⊥))
   pub write-wide : (writeNumber s v ≡ 17) ↔ ((16 ≤ length s) × Fixed v × (Narrow v → ⊥))
   pub write-right : (writeNumber s v ≡ 0) ↔ ((16 ≤ length s) × Fixed v × Narrow v)
-  pub refused-kept : writeNumber s v ≢ 0 → written s v ≡ s
 
--- Round trips: what is read and written back, here or to another part, is the same bits; what is written and read back is the same
--- value; bytes past the structure stay.
+-- The structure at the start of a part, and its round trips; whatever was read and accepted can be written where there is room.
+abbrev pub structureIn : List ℕ → Vsec
+structureIn s = vsecAt s 0
+
 pub record StructureTrips (s : List ℕ) : Type 0 where
-  pub accepted : readNumber s ≡ 0 → (z : List ℕ) → 16 ≤ length z → writeNumber z (vsecAt s 0) ≡ 0
-  pub back : AllBytes s → written s (vsecAt s 0) ≡ s
-  pub carried : AllBytes s → (z : List ℕ) → writeNumber z (vsecAt s 0) ≡ 0 → (k : ℕ) → k < 16 → getD (written z (vsecAt s 0)) k 0 ≡ getD s k 0
-  pub kept : (v : Vsec) → writeNumber s v ≡ 0 → vsecAt (written s v) 0 ≡ v
-  pub past : (v : Vsec) (k : ℕ) → 16 ≤ k → getD (written s v) k 0 ≡ getD s k 0
+  pub accepted : readNumber s ≡ 0 → (z : List ℕ) → 16 ≤ length z → writeNumber z (structureIn s) ≡ 0
+  pub trips : ValueTrips 16 structureIn writeNumber written s
 
 -- ---- the walk
 

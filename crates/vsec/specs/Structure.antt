@@ -11,14 +11,14 @@
 --   written s v      what the part holds then: the 16 bytes, and the rest as it was; all as it was where it is refused
 -- Assumes nothing.
 use Prim.Native.Nat.{ℕ, _+_, _*_, _/_, _%_, _^_}
-use mathlib.Core.Bool.{Bool, cond, not, _||_}
+use mathlib.Core.Bool.{Bool, not, _||_}
 use mathlib.Core.List.{List, [], _∷_, _++_}
 use lib.Dec.{ltb, eqb}
 use lib.ListN.{length}
 use Rattle.words.specs.Answers.{Answer, gives, unless, first}
-use Rattle.words.specs.Bytes.{numberAt, stored}
+use Rattle.words.specs.Bytes.{numberAt}
 use Rattle.words.specs.Fields.{field}
-use Rattle.words.specs.Tables.{withFields}
+use Rattle.words.specs.Tables.{writtenUnless}
 use Rattle.vsec.specs.declared.structure.Vsec.{Vsec}
 
 -- identifier, capability version, next, VSEC_ID, VSEC_REV, VSEC_LEN
@@ -84,4 +84,4 @@ unfoldable pub writeNumber : List ℕ → Vsec → ℕ
 writeNumber s v = first ((ltb (length s) 16, 25) ∷ (fixedWrong v, 5) ∷ (tooWide v, 17) ∷ [])
 
 unfoldable pub written : List ℕ → Vsec → List ℕ
-written s v = cond (eqb (writeNumber s v) 0) (stored s 0 16 (withFields 0 widths 0 (values v))) s
+written s v = writtenUnless (writeNumber s v) 16 widths (values v) s

@@ -4,6 +4,7 @@ pub mod StoreLaws
 pub mod FieldLaws
 pub mod Shifts
 pub mod TableLaws
+pub mod Structures
 pub mod AnswerLaws
 pub mod BelowLaws
 pub mod MaskLaws

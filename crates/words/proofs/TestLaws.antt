@@ -2,7 +2,7 @@
 use Prim.Native.Nat.{ℕ}
 use mathlib.Core.Path.{_≡_, refl, sym, ap, _∙_}
 use mathlib.Core.Bool.{Bool, true, false, not, _&&_, _||_, false≢true}
-use mathlib.Core.Logic.{_⊎_, inl, inr, _≢_}
+use mathlib.Core.Logic.{_⊎_, inl, inr, _↔_, _≢_}
 use borrow.Author.Tests.{eq-eqb, ne-eqb}
 use lib.Dec.{eqb}
 
@@ -35,3 +35,8 @@ and-both false b e = absurd (false≢true e)
 -- no test both holds and fails
 pub never-both : {b : Bool} → b ≡ true → b ≡ false → ⊥
 never-both p q = false≢true (sym q ∙ p)
+
+-- a test that fails exactly where a statement holds, holds exactly where it does not
+pub fails-exactly : {P : Type 0} (b : Bool) → ((b ≡ false) ↔ P) → (b ≡ true) ↔ (P → ⊥)
+fails-exactly true e = (λ z p. never-both refl (e .1 p), λ h. refl)
+fails-exactly false e = (λ z p. never-both z refl, λ h. absurd (h (e .0 refl)))

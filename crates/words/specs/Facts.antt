@@ -71,6 +71,16 @@ pub record RoundTrips (ws : List ℕ) (n : ℕ) (xs : List ℕ) (at y : ℕ) : T
   pub carried : AllBytes xs → (zs : List ℕ) (to : ℕ) → to + n ≤ length zs
       → (k : ℕ) → k < n → getD (stored zs to n (withFields 0 ws y (fields 0 ws (numberAt xs at n)))) (to + k) 0 ≡ getD xs (at + k) 0
 
+-- The same of a structure as a value of the code: `read` makes the value of a part's first n bytes, `number` says what writing a value
+-- answers, and `written` what the part then holds. What is read and written back, here or to another part, is the same bits; what is
+-- written and read back is the same value; bytes past the structure stay, and a refused write changes nothing.
+pub record ValueTrips {S : Type 0} (n : ℕ) (read : List ℕ → S) (number : List ℕ → S → ℕ) (written : List ℕ → S → List ℕ) (s : List ℕ) : Type 0 where
+  pub back : AllBytes s → written s (read s) ≡ s
+  pub carried : AllBytes s → (z : List ℕ) → number z (read s) ≡ 0 → (k : ℕ) → k < n → getD (written z (read s)) k 0 ≡ getD s k 0
+  pub kept : (v : S) → number s v ≡ 0 → read (written s v) ≡ v
+  pub past : (v : S) (k : ℕ) → n ≤ k → getD (written s v) k 0 ≡ getD s k 0
+  pub refused-kept : (v : S) → number s v ≢ 0 → written s v ≡ s
+
 -- Two words side by side, x of the widths ws below and y of the widths us above: their fields are those of the one and then those
 -- of the other, read and written.
 pub record SideBySide (ws us : List ℕ) (x y : ℕ) : Type 0 where

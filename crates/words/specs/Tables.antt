@@ -4,9 +4,13 @@
 --   withFields p ws x vs   x with the value of vs in each field
 --   total ws               the bits that the table takes
 --   Fit ws vs              a value for each field, each below 2 to its width
+--   writtenUnless          what a part holds once a structure of n bytes was written to it: as it was where the number is not 0
 -- Assumes nothing.
 use Prim.Native.Nat.{ℕ, _+_, _^_, _<_}
+use mathlib.Core.Bool.{cond}
 use mathlib.Core.List.{List, [], _∷_}
+use lib.Dec.{eqb}
+use Rattle.words.specs.Bytes.{stored}
 use Rattle.words.specs.Fields.{field, withField}
 
 unfoldable pub fields : ℕ → List ℕ → ℕ → List ℕ
@@ -27,3 +31,6 @@ Fit [] [] = Unit
 Fit [] (v ∷ vs) = ⊥
 Fit (w ∷ ws) [] = ⊥
 Fit (w ∷ ws) (v ∷ vs) = (v < 2 ^ w) × Fit ws vs
+
+abbrev pub writtenUnless : ℕ → ℕ → List ℕ → List ℕ → List ℕ → List ℕ
+writtenUnless number n ws vs s = cond (eqb number 0) (stored s 0 n (withFields 0 ws 0 vs)) s
