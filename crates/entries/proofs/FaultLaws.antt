@@ -97,7 +97,7 @@ module _ (s : List ℕ) (t n k : ℕ) {b : Bank} (is : b ≡ bankIn s t k) where
   fault-empty e = rw (← is, e)
 
   module _ (filled : emptyBank b ≡ false) where
-    entry-tests : faultAt s t n k ≡ first (tests s t n k b)
+    pub entry-tests : faultAt s t n k ≡ first (tests s t n k b)
     unfolding faultAt
     entry-tests = rw (← is, filled)
 

@@ -1,7 +1,7 @@
 -- The walk, header by header: the cases of each definition under its tests. Assumes nothing.
 use Prim.Native.Nat.{ℕ, zero, suc, _+_, _-_, _%_, _≤_, _<_}
 use mathlib.Core.Path.{_≡_, refl, sym, ap, _∙_}
-use mathlib.Core.Bool.{Bool, true, false, cond, not, _&&_, _||_, or-true}
+use mathlib.Core.Bool.{Bool, true, false, cond, not, _&&_, _||_}
 use mathlib.Core.List.{List, [], _∷_}
 use mathlib.Core.Logic.{_≢_}
 use native.Mathlib.Nat.{not-suc-le-zero}
@@ -10,7 +10,7 @@ use borrow.Author.Tests.{lt-ltb, le-ltb, eq-eqb, ne-eqb}
 use lib.Dec.{ltb, eqb}
 use Rattle.words.specs.Answers.{Answer, refused, gives, unless}
 use Rattle.words.specs.Bytes.{numberAt}
-use Rattle.words.proofs.TestLaws.{as-must, not-as-must, or-skip, or-take}
+use Rattle.words.proofs.TestLaws.{as-must, not-as-must, or-skip, or-take, or-second}
 use Rattle.words.proofs.AnswerLaws.{first-skip, first-take, first-end}
 use Rattle.vsec.specs.Structure.{vsecAt, fixedWrong}
 use Rattle.vsec.specs.Walk.{Header, stops, goes, identifierAt, nextAt, vsecIdAt, followed, takenAt, headerAt, onward, walkFrom, emptyList, unlessEmpty, walkOf}
@@ -30,7 +30,7 @@ module _ (n : ℕ) where
   followed-low h l = bad h (or-take _ (lt-ltb _ _ l))
 
   pub followed-odd : n ≢ 0 → n % 4 ≢ 0 → followed n ≡ stops (refused 4)
-  followed-odd h o = bad h (ap (λ (b : Bool). ltb n 0x100 || b) (not-as-must o) ∙ or-true (ltb n 0x100))
+  followed-odd h o = bad h (or-second (ltb n 0x100) (not-as-must o))
 
   pub followed-on : 0x100 ≤ n → n % 4 ≡ 0 → followed n ≡ goes n
   unfolding followed
@@ -83,7 +83,7 @@ module _ (s : List ℕ) where
 
   pub walk-ones : numberAt s 0x100 4 ≡ 0xFFFFFFFF → walkOf s ≡ refused 3
   unfolding walkOf emptyList
-  walk-ones h = ap (λ (b : Bool). unlessEmpty b (walkFrom s 960)) (ap (λ (b : Bool). eqb (numberAt s 0x100 4) 0 || b) (eq-eqb _ _ h) ∙ or-true (eqb (numberAt s 0x100 4) 0))
+  walk-ones h = ap (λ (b : Bool). unlessEmpty b (walkFrom s 960)) (or-second (eqb (numberAt s 0x100 4) 0) (eq-eqb _ _ h))
 
   pub walk-begins : numberAt s 0x100 4 ≢ 0 → numberAt s 0x100 4 ≢ 0xFFFFFFFF → walkOf s ≡ walkFrom s 960 0x100
   unfolding walkOf emptyList

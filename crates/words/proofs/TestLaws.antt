@@ -20,6 +20,10 @@ or-skip b e = rw e
 pub or-take : {a : Bool} (b : Bool) → a ≡ true → (a || b) ≡ true
 or-take b e = rw e
 
+pub or-second : (a : Bool) {b : Bool} → b ≡ true → (a || b) ≡ true
+or-second true e = refl
+or-second false e = e
+
 pub or-neither : (a b : Bool) → (a || b) ≡ false → (a ≡ false) × (b ≡ false)
 or-neither true b e = absurd (false≢true (sym e))
 or-neither false b e = (refl, e)

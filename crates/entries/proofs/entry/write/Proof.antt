@@ -36,8 +36,7 @@ returns-3 : tie.Need-returns-3
 returns-3 c =
     let f = c .before .before .before .before .before in
     let a = f .before .before .before .before .args in
-    let n : writeNumber (a .part .now) (a .e) ≡ 0 = write-right (a .part .now) (a .e) (f .before .before .if1 .left) (sym (f .before .too-wide .ensures) ∙ f .if2 .left) in
-    (
+    let n : writeNumber (a .part .now) (a .e) ≡ 0 = write-right (a .part .now) (a .e) (f .before .before .if1 .left) (sym (f .before .too-wide .ensures) ∙ f .if2 .left) in (
       sym n,
       c .before .before .store-u64 .ensures ∙ ap (stored (a .part .now) 0 8) (c .before .before .before .word-of .ensures) ∙ sym (written-accepted (a .part .now) (a .e) n),
     )

@@ -54,8 +54,7 @@ loop-again c =
     let f = c .before .before in
     let l = f .before .before .before .loop in
     let a = f .before .before .before .before .before .args in
-    let other : clashOf (bankIn (a .bar .now) (a .table) (l .j)) (a .b) ≢ 10 = λ z. c .before .if1 .left (clash-is f ∙ z) in
-    (
+    let other : clashOf (bankIn (a .bar .now) (a .table) (l .j)) (a .b) ≢ 10 = λ z. c .before .if1 .left (clash-is f ∙ z) in (
       omega arith,
       any-more (repeatsAt (a .bar .now) (a .table) (a .b)) (l .j) (l .inv .1) (clash-other _ _ other),
       ⊎-elim (λ w. w .1 ∙ sym (sofar-more (a .bar .now) (a .table) (a .b) (l .j) (clash-meets _ _ (sym (clash-is f) ∙ w .0 .taken))))
