@@ -22,7 +22,7 @@ use Rattle.entries.proofs.FaultLaws.{fault-empty, entry-tests}
 
 -- ---- each test, and what it decides
 
-filled-exactly : (b : Bank) → (emptyBank b ≡ false) ↔ Filled b
+pub filled-exactly : (b : Bank) → (emptyBank b ≡ false) ↔ Filled b
 unfolding emptyBank
 filled-exactly b =
     (λ e. let o = or-neither _ _ e in (eqb-false _ _ (o .0), eqb-false _ _ (o .1)), λ f. or-skip _ (ne-eqb _ _ (f .0)) ∙ ne-eqb _ _ (f .1))

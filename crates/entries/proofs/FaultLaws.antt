@@ -1,5 +1,5 @@
 -- The faults of a table, case by case: one bank against another, against all the earlier ones, and an entry's own. Assumes nothing.
-use Prim.Native.Nat.{ℕ, _+_, _*_, _≤_, _<_}
+use Prim.Native.Nat.{ℕ, _+_, _*_, _^_, _≤_, _<_}
 use mathlib.Core.Path.{_≡_, refl, sym, ap, _∙_}
 use mathlib.Core.Bool.{Bool, true, false, _||_}
 use mathlib.Core.List.{List, [], _∷_}
@@ -17,7 +17,7 @@ use Rattle.words.proofs.TestLaws.{or-skip, or-take}
 use Rattle.words.proofs.BelowLaws.{any-found, any-skip}
 use Rattle.words.proofs.Theorems.{exact-fact}
 use Rattle.entries.specs.Entry.{entryOf, entryAt}
-use Rattle.entries.specs.Faults.{Small, bankIn, repeats, meets, clashOf, repeatsAt, meetsAt, earlierOf, share, emptyBank, tests, faultAt}
+use Rattle.entries.specs.Faults.{Small, bankOf, bankIn, repeats, meets, clashOf, repeatsAt, meetsAt, earlierOf, share, emptyBank, tests, faultAt}
 use Rattle.entries.specs.declared.faults.Bank.{Bank}
 
 -- an entry that is read from bytes has small numbers
@@ -28,6 +28,17 @@ entry-small s at = let x : ℕ = numberAt s at 8 in record { instances = field-l
 -- so its bank's bytes stay few
 pub bank-small : {a b : ℕ} → a < 256 → b < 65536 → a * b ≤ 16711425
 bank-small {a} {b} h k = mul-le-mul {n₁ = a} {m₁ = b} {n₂ = 255} {m₂ = 65535} (omega arith) (omega arith)
+
+-- the numbers of a bank, with the table below 2 to the 32
+pub record Bounded (b : Bank) : Type 0 where
+  pub instances : b .instances < 256
+  pub words : b .words < 65536
+  pub start : b .start < 2 ^ 33
+  pub end : b .end ≡ b .start + b .instances * b .words * 4
+
+pub bank-bounded : (s : List ℕ) (t k : ℕ) → t < 2 ^ 32 → Bounded (bankIn s t k)
+unfolding bankIn bankOf
+bank-bounded s t k h = let e = entry-small s (t + k * 8) in record { instances = e .instances; words = e .words; start = omega (arith, e .offset); end = refl }
 
 -- ---- one bank against another
 

@@ -59,7 +59,7 @@ structure-answers s v =
     }
 
 -- what is read is narrow, whatever the bytes
-narrow-of : (x : ℕ) → Narrow (vsecOf x)
+pub narrow-of : (x : ℕ) → Narrow (vsecOf x)
 unfolding vsecOf
 narrow-of x =
     record {
@@ -70,6 +70,10 @@ narrow-of x =
       offset = omega (arith, field-lt 99 29 x);
       multiple = omega arith;
     }
+
+pub narrow-at : (s : List ℕ) (at : ℕ) → Narrow (vsecAt s at)
+unfolding vsecAt
+narrow-at s at = narrow-of _
 
 -- a value from its numbers in the order of the table
 rebuilt : List ℕ → Vsec

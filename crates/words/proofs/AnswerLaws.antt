@@ -6,7 +6,7 @@ use mathlib.Core.List.{List, [], _∷_, _++_}
 use mathlib.Core.Bool.{Bool, true, false, not, _&&_, cond}
 use native.Mathlib.Omega.{arith}
 use lib.Dec.{T, T-not, ltb, ltb→lt, leb, leb→le, eqb, eqb-refl}
-use Rattle.words.specs.Answers.{Answer, refused, gives, unless, first, orElse, earliest}
+use Rattle.words.specs.Answers.{Answer, refused, gives, unless, numberIn, first, orElse, earliest}
 use Rattle.words.specs.Facts.{NoneHolds, Decides, numbered, fresh}
 
 -- ---- an answer and its number
@@ -25,6 +25,11 @@ unless-gives (suc n) e = let z : _≡_ {A = ℕ} 0 1 = cc in absurd (omega arith
 pub unless-refused : (n : ℕ) (xs : List ℕ) {m : ℕ} → unless n (gives xs) ≡ refused m → (n ≡ m) × (m ≢ 0)
 unless-refused zero xs e = let z : _≡_ {A = ℕ} 0 1 = cc in absurd (omega arith)
 unless-refused (suc n) xs e = (cc, λ h. let z : suc n ≡ 0 = cc in omega arith)
+
+-- the number of an answer is the number that decides it
+pub unless-number-in : (n : ℕ) (xs : List ℕ) → numberIn (unless n (gives xs)) ≡ n
+unless-number-in zero xs = refl
+unless-number-in (suc n) xs = refl
 
 -- ---- the first test that holds
 

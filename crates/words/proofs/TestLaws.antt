@@ -32,6 +32,17 @@ pub or-either : (a b : Bool) → (a || b) ≡ true → (a ≡ true) ⊎ (b ≡ t
 or-either true b e = inl refl
 or-either false b e = inr e
 
+-- a chain of `&&` fails by its first part, or by its second
+pub and-first : {a : Bool} (b : Bool) → a ≡ false → (a && b) ≡ false
+and-first b e = rw e
+
+pub and-second : (a : Bool) {b : Bool} → b ≡ false → (a && b) ≡ false
+and-second true e = e
+and-second false e = refl
+
+pub and-holds : {a b : Bool} → a ≡ true → b ≡ true → (a && b) ≡ true
+and-holds p q = rw (p, q)
+
 pub and-both : (a b : Bool) → (a && b) ≡ true → (a ≡ true) × (b ≡ true)
 and-both true b e = (refl, e)
 and-both false b e = absurd (false≢true e)

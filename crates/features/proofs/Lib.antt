@@ -1,0 +1,3 @@
+pub mod DiscoveryLaws
+pub mod PlaceLaws
+pub mod InsideLaws

@@ -1,0 +1,4 @@
+pub mod Discovery
+pub mod Places
+pub mod Valid
+pub mod Told

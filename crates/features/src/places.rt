@@ -1,0 +1,44 @@
+// What lookups answer: a place in one of the two BAR captures, or a number; and which of the two captures is meant.
+ghost use mathlib.Core.Path.{_≡_};
+ghost use Rattle.words.specs.Answers.{numberIn};
+ghost use Rattle.features.specs.Discovery.{named};
+ghost use Rattle.features.specs.Told.{told};
+
+// `count` pieces of `size` bytes each, one after the other from `start` on, in the BAR capture with the number `bir`: a table of
+// entries, a bank of instances, one instance, one register.
+pub struct Place {
+    pub bir: u8,
+    pub start: usize,
+    pub size: usize,
+    pub count: usize,
+}
+
+pub enum Found {
+    At(Place),
+    Refused(u8),
+}
+
+pub enum Value {
+    Is(u64),
+    Refused(u8),
+}
+
+// The refusal's number, 0 where something was found.
+pub fn number_of(found: Found) -> u8
+    ensures answer { λ r. ⌜ r ≡ numberIn (told found) ⌝ }
+{
+    match found {
+        Found::At(_) => 0,
+        Found::Refused(n) => n,
+    }
+}
+
+// The BAR capture with the number `bir`, where it is one of the two.
+pub fn bar_of<'a>(bir: u8, lo: u8, low: &'a [u8], high: &'a [u8]) -> &'a [u8]
+    ensures part { λ r. ⌜ now r ≡ named bir lo (now (low .entry)) (now (high .entry)) ⌝ }
+{
+    if bir == lo {
+        return low;
+    }
+    high
+}
