@@ -1,7 +1,7 @@
 -- The faults of a table decide their plain statements: entry by entry, and over the whole table. Assumes nothing.
 use Prim.Native.Nat.{ℕ, zero, suc, _+_, _*_, _≤_, _<_}
 use mathlib.Core.Path.{_≡_, refl, sym, ap, _∙_, subst}
-use mathlib.Core.Bool.{Bool, true, false, not, _&&_, _||_}
+use mathlib.Core.Bool.{Bool, true, false, cond, not, _&&_, _||_}
 use mathlib.Core.List.{List, [], _∷_}
 use mathlib.Core.Logic.{_⊎_, inl, inr, ⊎-elim, _↔_, _≢_}
 use native.Mathlib.Nat.{one-le-mul}
@@ -12,8 +12,8 @@ use lib.ListN.{length}
 use Rattle.words.specs.Answers.{first}
 use Rattle.words.specs.Below.{anyBelow}
 use Rattle.words.specs.Facts.{NoneHolds}
-use Rattle.words.proofs.AnswerLaws.{first-zero, first-none}
-use Rattle.words.proofs.TestLaws.{or-skip, or-take, or-neither, or-either, or-second, and-both, never-both, fails-exactly}
+use Rattle.words.proofs.AnswerLaws.{first-zero, first-none, first-upto}
+use Rattle.words.proofs.TestLaws.{or-skip, or-take, or-neither, or-either, or-second, and-both, never-both, fails-else}
 use Rattle.words.proofs.Theorems.{exact-fact, any-fact, fault-fact}
 use Rattle.entries.specs.Faults.{bankIn, bankOf, emptyBank, share, repeats, meets, repeatsAt, meetsAt, tests, faultAt, faultsOf}
 use Rattle.entries.specs.Facts.{Filled, Shared, Repeats, Overlaps, Clean, EntryFaults, TableFaults}
@@ -129,10 +129,6 @@ entry-faults s t n k below =
       );
     }
   where
-    fails-else : (x : Bool) {P : Type 0} → ((x ≡ true) ↔ P) → (x ≡ false) ↔ (P → ⊥)
-    fails-else true i = (λ e p. never-both refl e, λ h. absurd (h (i .0 refl)))
-    fails-else false i = (λ e p. never-both (i .1 p) refl, λ h. refl)
-
     clean : Filled (bankIn s t k) → eqb (bankIn s t k .words) 1 ≡ false → ltb (length s) (bankIn s t k .end) ≡ false → anyBelow (repeatsAt s t (bankIn s t k)) k ≡ false
         → (share t (t + n * 8) (bankIn s t k .start) (bankIn s t k .end) || anyBelow (meetsAt s t (bankIn s t k)) k) ≡ false → Clean s t n k
     clean f a c d e =
@@ -161,3 +157,20 @@ table-faults s t n =
       none = (λ e k l. entry-faults s t n k l .none .0 (all .none .0 e k l), λ h. all .none .1 (λ k l. entry-faults s t n k l .none .1 (h k l)));
       some = all .some;
     }
+
+-- ---- no fault is above 11
+
+fault-small : (s : List ℕ) (t n k : ℕ) → faultAt s t n k ≤ 11
+unfolding faultAt
+fault-small s t n k = by (emptyBank (bankIn s t k))
+  where
+    by : (e : Bool) → cond e 0 (first (tests s t n k (bankIn s t k))) ≤ 11
+    by true = omega arith
+    by false = first-upto 11 (tests s t n k (bankIn s t k)) tt
+
+pub faults-small : (s : List ℕ) (t n : ℕ) → faultsOf s t n ≤ 11
+faults-small s t n = by (eqb (faultsOf s t n) 0) refl
+  where
+    by : (e : Bool) → eqb (faultsOf s t n) 0 ≡ e → faultsOf s t n ≤ 11
+    by true e = omega (arith, eqb-true (faultsOf s t n) 0 e)
+    by false e = let r = table-faults s t n .some _ (eqb-false _ _ e) .0 refl in omega (arith, r .2, fault-small s t n (r .0))

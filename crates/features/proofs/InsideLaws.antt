@@ -50,9 +50,13 @@ module _ (c : Capture) (id : ℕ) (z : featureNumber c id ≡ 0) where
   unfolding indexIn
   held-there = is-least (holds (barOf c) (tableOf c) id) (entriesOf c) 0 .passes (omega (arith, index-there))
 
+  -- the entry's own bank is the feature's
+  pub entry-filled : Filled (bankIn (barOf c) (tableOf c) (indexIn (barOf c) (tableOf c) (entriesOf c) id))
+  entry-filled = filled-exactly _ .0 (not-true _ (and-both _ _ held-there .0))
+
   pub bank-filled : Filled (bankFor c id)
   unfolding bankFor
-  bank-filled = filled-exactly _ .0 (not-true _ (and-both _ _ held-there .0))
+  bank-filled = entry-filled
 
   pub bank-id : bankFor c id .id ≡ id
   unfolding bankFor
@@ -89,13 +93,16 @@ module _ (c : Capture) (id n : ℕ) (z : instanceNumber c id n ≡ 0) where
       by zero h = absurd (h refl)
       by (suc w) h = omega arith
 
-  pub instance-inside : startFor c id n + sizeFor c id ≤ length (barOf c)
-  instance-inside =
+  pub instance-in-bank : startFor c id n + sizeFor c id ≤ bankFor c id .end
+  instance-in-bank =
       let w : ℕ = bankFor c id .words * 4 in
       let all : (n + 1) * w ≤ bankFor c id .instances * w = mul-le-mul {n₁ = n + 1} {m₁ = w} {n₂ = bankFor c id .instances} {m₂ = w} (omega (arith, instance-there)) (omega arith) in
       let next : (n + 1) * w ≡ n * w + w = add-mul n 1 w ∙ ap (λ (k : ℕ). n * w + k) (one-mul w) in
       let flat : bankFor c id .instances * bankFor c id .words * 4 ≡ bankFor c id .instances * w = mul-assoc _ _ _ in
-      omega (arith, all, next, flat, bank-inside c id feature-found, bank-for-bounded c id .end)
+      omega (arith, all, next, flat, bank-for-bounded c id .end)
+
+  pub instance-inside : startFor c id n + sizeFor c id ≤ length (barOf c)
+  instance-inside = omega (arith, instance-in-bank, bank-inside c id feature-found)
 
   -- it starts far below 2 to the 64
   pub start-small : startFor c id n < 2 ^ 35

@@ -1,3 +1,5 @@
 pub mod DiscoveryLaws
 pub mod PlaceLaws
 pub mod InsideLaws
+pub mod DiscoveryFact
+pub mod LookupFact

@@ -2,3 +2,4 @@ pub mod Discovery
 pub mod Places
 pub mod Valid
 pub mod Told
+pub mod Facts

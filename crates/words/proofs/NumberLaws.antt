@@ -8,7 +8,7 @@ use lib.Arith.{digits-lt, digits-div, digits-mod}
 use lib.Dec.{leb}
 use lib.ListN.{length, getD, take, drop, length-take, List·getD-eq-default}
 use lib.Seq.{getD-take, getD-drop}
-use native.Mathlib.Nat.{not-suc-le-zero, mod-lt, pow-suc, pow-succ', zero-add, add-zero, suc-add, add-suc, add-assoc, add-mul, mul-assoc, mul-one, div-one, div-div-eq-div-mul, zero-lt-suc, lt-of-lt-of-le, pow-le-pow-right}
+use native.Mathlib.Nat.{not-suc-le-zero, one-le-pow, mod-lt, pow-suc, pow-succ', zero-add, add-zero, suc-add, add-suc, add-assoc, add-mul, mul-assoc, mul-one, div-one, div-div-eq-div-mul, zero-lt-suc, lt-of-lt-of-le, pow-le-pow-right}
 use native.Mathlib.Omega.{arith}
 use Rattle.words.specs.Bytes.{AllBytes, numberAt}
 
@@ -75,3 +75,26 @@ part-bytes xs b a len k = by (leb len k) refl
     by : (t : Bool) → leb len k ≡ t → getD (take len (drop a xs)) k 0 < 256
     by true e = let h = leb-true len k e in let z : getD (take len (drop a xs)) k 0 ≡ 0 = List·getD-eq-default (take len (drop a xs)) 0 (omega (arith, length-take len (drop a xs), h)) in omega arith
     by false e = subst (λ (x : ℕ). x < 256) (sym (getD-take len (drop a xs) k 0 (leb-false len k e) ∙ getD-drop a xs k 0)) (b (a + k))
+
+-- ---- all ones
+
+-- a number of n bytes is all ones exactly if each of its bytes is
+pub number-ones : (xs : List ℕ) → AllBytes xs → (at n : ℕ) → numberAt xs at n ≡ 256 ^ n - 1 → (k : ℕ) → k < n → getD xs (at + k) 0 ≡ 255
+unfolding numberAt
+number-ones xs b at zero e k h = absurd (not-suc-le-zero h)
+number-ones xs b at (suc n) e k h = by k h (number-ones xs b (suc at) n (rest .0))
+  where
+    rest : (numberAt xs (suc at) n ≡ 256 ^ n - 1) × (getD xs at 0 ≡ 255)
+    rest = omega (arith, e, b at, pow-suc 256 n, one-le-pow n 256 (zero-lt-suc 255))
+
+    by : (k : ℕ) → k < suc n → ((k : ℕ) → k < n → getD xs (suc at + k) 0 ≡ 255) → getD xs (at + k) 0 ≡ 255
+    by zero h above = rw add-zero (rest .1)
+    by (suc k) h above = rw (add-suc, ← suc-add) (above k (omega arith))
+
+pub ones-number : (xs : List ℕ) (at n : ℕ) → ((k : ℕ) → k < n → getD xs (at + k) 0 ≡ 255) → numberAt xs at n ≡ 256 ^ n - 1
+unfolding numberAt
+ones-number xs at zero f = refl
+ones-number xs at (suc n) f =
+    let this : getD xs at 0 ≡ 255 = rw add-zero at (f 0 (omega arith)) in
+    let above = ones-number xs (suc at) n (λ k h. rw suc-add (rw add-suc at (f (suc k) (omega arith)))) in
+    omega (arith, this, above, pow-suc 256 n, one-le-pow n 256 (zero-lt-suc 255))

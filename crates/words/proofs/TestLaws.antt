@@ -55,3 +55,8 @@ never-both p q = false≢true (sym q ∙ p)
 pub fails-exactly : {P : Type 0} (b : Bool) → ((b ≡ false) ↔ P) → (b ≡ true) ↔ (P → ⊥)
 fails-exactly true e = (λ z p. never-both refl (e .1 p), λ h. refl)
 fails-exactly false e = (λ z p. never-both z refl, λ h. absurd (h (e .0 refl)))
+
+-- and one that holds exactly where a statement does, fails exactly where it does not
+pub fails-else : {P : Type 0} (b : Bool) → ((b ≡ true) ↔ P) → (b ≡ false) ↔ (P → ⊥)
+fails-else true i = (λ e p. never-both refl e, λ h. absurd (h (i .0 refl)))
+fails-else false i = (λ e p. never-both (i .1 p) refl, λ h. refl)

@@ -1,0 +1,251 @@
+-- The lookups over a capture decide their plain statements; accepted instances lie inside, are not empty and share no byte. Assumes nothing.
+use Prim.Native.Nat.{ℕ, zero, suc, _+_, _*_, _-_, _/_, _%_, _^_, _≤_, _<_}
+use mathlib.Core.Path.{_≡_, refl, sym, ap, _∙_, subst}
+use mathlib.Core.Bool.{Bool, true, false, not, _&&_, _||_}
+use mathlib.Core.List.{List, [], _∷_}
+use mathlib.Core.Logic.{_⊎_, inl, inr, ⊎-elim, _↔_, _≢_}
+use native.Mathlib.Nat.{mul-le-mul, add-mul, one-mul, eq-or-lt-of-le}
+use native.Mathlib.Omega.{arith}
+use borrow.Author.Tests.{lt-leb, le-leb, leb-true, leb-false, eqb-true, eqb-false, eq-eqb, ne-eqb, le-ltb, ltb-false, not-false, not-true}
+use lib.Dec.{ltb, leb, eqb}
+use lib.ListN.{length, getD, take, drop, length-take, length-drop}
+use Rattle.words.specs.Answers.{Answer, refused, gives, numberIn, first, earliest}
+use Rattle.words.specs.Below.{least}
+use Rattle.words.specs.Bytes.{AllBytes, numberAt}
+use Rattle.words.proofs.TestLaws.{as-must, or-skip, and-both, and-holds, fails-exactly, fails-else, never-both}
+use Rattle.words.proofs.AnswerLaws.{earliest-pass, earliest-stop, earliest-last, earliest-zero, earliest-upto, earliest-end, first-upto, first-zero, first-none, first-skip, first-take, first-end}
+use Rattle.words.proofs.BelowLaws.{is-least, least-once}
+use Rattle.words.proofs.NumberLaws.{number-ones, ones-number}
+use Rattle.words.proofs.Theorems.{exact-fact}
+use Rattle.entries.specs.Faults.{bankIn, emptyBank}
+use Rattle.entries.specs.Facts.{Filled, Shared}
+use Rattle.entries.specs.declared.faults.Bank.{Bank}
+use Rattle.vsec.specs.Walk.{walkOf}
+use Rattle.vsec.proofs.WalkFact.{Kept, walk-kept}
+use Rattle.entries.proofs.FaultFact.{filled-exactly, table-faults, faults-small}
+use Rattle.features.specs.Discovery.{Capture, beforeWalk, birNumber, tableNumber, barOf, tableOf, entriesOf, numberOf}
+use Rattle.features.specs.Places.{holds, indexIn, missing, bankFor, sizeFor, featureNumber, startFor, invalidAt, unsound, instanceNumber, instancePart, outside, registerNumber}
+use Rattle.features.specs.Facts.{Has, Ones, LookupFact, PlaceFact, ApartFact}
+use Rattle.features.proofs.PlaceLaws.{outside-room, outside-none, part-found, bank-for-bounded}
+use Rattle.features.proofs.InsideLaws.{no-fault, discovered, index-there, entry-filled, bank-id, feature-found, instance-there, size-some, instance-in-bank, instance-inside}
+
+-- ---- a stage after a lookup: its refusal is handed on, else the stage decides
+
+handed-on : (n m : ℕ) → n ≢ 0 → earliest (n ∷ m ∷ []) ≡ n
+handed-on n m h = earliest-stop n (m ∷ []) h
+
+decided : {n : ℕ} (m : ℕ) → n ≡ 0 → earliest (n ∷ m ∷ []) ≡ m
+decided m z = earliest-pass (m ∷ []) z ∙ earliest-last m
+
+both-zero : (n m : ℕ) → (earliest (n ∷ m ∷ []) ≡ 0) ↔ ((n ≡ 0) × (m ≡ 0))
+both-zero n m = (λ e. let z = earliest-zero n (m ∷ []) e in (z .0, sym (earliest-last m) ∙ z .1), λ h. decided m (h .0) ∙ h .1)
+
+-- ---- a feature
+
+-- an entry is the feature exactly if it is not empty and has the identifier
+held-exactly : (s : List ℕ) (t id k : ℕ) → (holds s t id k ≡ true) ↔ (Filled (bankIn s t k) × (bankIn s t k .id ≡ id))
+held-exactly s t id k = (
+  λ e. let h = and-both (not (emptyBank (bankIn s t k))) (eqb (bankIn s t k .id) id) e in (filled-exactly _ .0 (not-true _ (h .0)), eqb-true _ _ (h .1)),
+  λ h. and-holds (ap not (filled-exactly _ .1 (h .0))) (eq-eqb _ _ (h .1)),
+)
+
+module _ (c : Capture) (id : ℕ) where
+  -- the search finds an entry exactly if some entry is the feature
+  index-exactly : (indexIn (barOf c) (tableOf c) (entriesOf c) id < entriesOf c) ↔ Has c id
+  unfolding indexIn
+  index-exactly =
+      let p : ℕ → Bool = holds (barOf c) (tableOf c) id in
+      let l = is-least p (entriesOf c) 0 in (
+        λ h. let q = held-exactly (barOf c) (tableOf c) id _ .0 (l .passes (omega (arith, h))) in (least p (entriesOf c) 0, h, q .0, q .1),
+        λ r. found (r .0) (r .1) (held-exactly (barOf c) (tableOf c) id (r .0) .1 (r .2, r .3)),
+      )
+    where
+      found : (k : ℕ) → k < entriesOf c → holds (barOf c) (tableOf c) id k ≡ true → least (holds (barOf c) (tableOf c) id) (entriesOf c) 0 < entriesOf c
+      found k h e = by (leb (entriesOf c) (least (holds (barOf c) (tableOf c) id) (entriesOf c) 0)) refl
+        where
+          by : (t : Bool) → leb (entriesOf c) (least (holds (barOf c) (tableOf c) id) (entriesOf c) 0) ≡ t → least (holds (barOf c) (tableOf c) id) (entriesOf c) 0 < entriesOf c
+          by true g = absurd (never-both e (is-least (holds (barOf c) (tableOf c) id) (entriesOf c) 0 .fail k (omega arith) (omega (arith, leb-true (entriesOf c) (least (holds (barOf c) (tableOf c) id) (entriesOf c) 0) g))))
+          by false g = leb-false _ _ g
+
+  missing-zero : (missing (barOf c) (tableOf c) (entriesOf c) id ≡ 0) ↔ Has c id
+  unfolding missing
+  missing-zero = (
+    λ e. index-exactly .0 (leb-false _ _ (first-zero _ tt e .0)),
+    λ h. first-none _ (lt-leb _ _ (index-exactly .1 h), tt),
+  )
+
+  missing-twelve : (missing (barOf c) (tableOf c) (entriesOf c) id ≡ 12) ↔ (Has c id → ⊥)
+  unfolding missing
+  missing-twelve =
+      let n12 = exact-fact [] (leb (entriesOf c) (indexIn (barOf c) (tableOf c) (entriesOf c) id)) 12 [] (λ z. omega arith) tt in
+      let f = fails-exactly (leb (entriesOf c) (indexIn (barOf c) (tableOf c) (entriesOf c) id)) (λ e. index-exactly .0 (leb-false _ _ e), λ h. lt-leb _ _ (index-exactly .1 h)) in
+      (λ e. f .0 (n12 .0 e .1), λ h. n12 .1 (tt, f .1 h))
+
+-- ---- an instance, and a register
+
+-- the eight bytes are all ones exactly if each is
+invalid-exactly : (c : Capture) (at : ℕ) → AllBytes (barOf c) → (invalidAt (barOf c) at ≡ true) ↔ Ones c at
+unfolding invalidAt
+invalid-exactly c at b = (λ e. number-ones (barOf c) b at 8 (eqb-true _ _ e), λ h. eq-eqb _ _ (ones-number (barOf c) at 8 h))
+
+outside-exactly : (size offset : ℕ) → ((not (eqb (offset % 8) 0) || ltb size (offset + 8)) ≡ false) ↔ ((offset % 8 ≡ 0) × (offset + 8 ≤ size))
+unfolding outside
+outside-exactly size offset = (λ e. outside-room size offset (first-skip _ _ e ∙ first-end), λ h. or-skip _ (as-must (h .0)) ∙ le-ltb _ _ (h .1))
+
+-- a number of a stage comes from the stage, where the lookup before it never gives that number
+from-stage : (n m k : ℕ) → k ≢ 0 → n ≢ k → earliest (n ∷ m ∷ []) ≡ k → (n ≡ 0) × (m ≡ k)
+from-stage n m k h o e = by (eqb n 0) refl
+  where
+    by : (t : Bool) → eqb n 0 ≡ t → (n ≡ 0) × (m ≡ k)
+    by true z = let z′ = eqb-true n 0 z in (z′, sym (decided m z′) ∙ e)
+    by false z = absurd (o (sym (handed-on n m (eqb-false n 0 z)) ∙ e))
+
+-- discovery gives no number above 11, so those of the lookups are told apart
+walk-small : (w : Answer) → Kept w → numberIn w ≤ 11
+walk-small (refused n) k = omega (arith, k .1)
+walk-small (gives vs) k = omega arith
+
+discovery-small : (c : Capture) → numberOf c ≤ 11
+unfolding numberOf beforeWalk birNumber tableNumber
+discovery-small c =
+    earliest-upto 11 _ _ (first-upto 11 _ tt) (earliest-upto 11 _ _ (walk-small (walkOf (c .config)) (walk-kept (c .config)))
+    (earliest-upto 11 _ _ (first-upto 11 _ tt) (earliest-upto 11 _ _ (first-upto 11 _ tt) (earliest-upto 11 _ _ (faults-small (barOf c) (tableOf c) (entriesOf c)) (omega (arith, earliest-end))))))
+
+feature-small : (c : Capture) (id : ℕ) → featureNumber c id ≤ 12
+unfolding featureNumber missing
+feature-small c id = earliest-upto 12 _ _ (omega (arith, discovery-small c)) (earliest-upto 12 _ _ (first-upto 12 _ tt) (omega (arith, earliest-end)))
+
+instance-small : (c : Capture) (id n : ℕ) → instanceNumber c id n ≤ 13
+unfolding instanceNumber unsound
+instance-small c id n = earliest-upto 13 _ _ (omega (arith, feature-small c id)) (earliest-upto 13 _ _ (first-upto 13 _ tt) (omega (arith, earliest-end)))
+
+pub lookup-fact : (c : Capture) (id n offset : ℕ) → LookupFact c id n offset
+unfolding featureNumber instanceNumber registerNumber unsound outside
+lookup-fact c id n offset =
+    let many : ℕ = bankFor c id .instances in
+    let bad : Bool = invalidAt (barOf c) (startFor c id n) in
+    let n12 = exact-fact [] (leb many n) 12 ((bad, 13) ∷ []) (λ z. omega arith) tt in
+    let n13 = exact-fact ((leb many n, 12) ∷ []) bad 13 [] (λ z. omega arith) tt in
+    let off = outside-exactly (sizeFor c id) offset in
+    let n14 = exact-fact [] (not (eqb (offset % 8) 0) || ltb (sizeFor c id) (offset + 8)) 14 [] (λ z. omega arith) tt in
+    record {
+      feature-handed-on = handed-on _ _;
+      feature-missing = λ z. (λ e. missing-twelve c id .0 (sym (decided _ z) ∙ e), λ h. decided _ z ∙ missing-twelve c id .1 h);
+      feature-found = (λ e. let z = both-zero _ _ .0 e in (z .0, missing-zero c id .0 (z .1)), λ h. both-zero _ _ .1 (h .0, missing-zero c id .1 (h .1)));
+      instance-handed-on = handed-on _ _;
+      instance-missing = λ z. (λ e. leb-true _ _ (n12 .0 (sym (decided _ z) ∙ e) .1), λ h. decided _ z ∙ n12 .1 (tt, le-leb _ _ h));
+      instance-ones = λ b. (
+        λ e. let q = from-stage (featureNumber c id) _ 13 (λ z. omega arith) (λ z. omega (arith, feature-small c id, z)) e in let r = n13 .0 (q .1) in (q .0, leb-false _ _ (r .0 .0), invalid-exactly c _ b .0 (r .1)),
+        λ h. decided _ (h .0) ∙ n13 .1 ((lt-leb _ _ (h .1), tt), invalid-exactly c _ b .1 (h .2)),
+      );
+      instance-found = λ b. (
+        λ e. let z = both-zero _ _ .0 e in let f = first-zero _ tt (z .1) in (z .0, leb-false _ _ (f .0), fails-else bad (invalid-exactly c _ b) .0 (f .1 .0)),
+        λ h. both-zero _ _ .1 (h .0, first-none _ (lt-leb _ _ (h .1), (fails-else bad (invalid-exactly c _ b) .1 (h .2), tt))),
+      );
+      register-handed-on = handed-on _ _;
+      register-outside = (
+        λ e. let q = from-stage (instanceNumber c id n) _ 14 (λ z. omega arith) (λ z. omega (arith, instance-small c id n, z)) e in (q .0, fails-exactly _ off .0 (n14 .0 (q .1) .1)),
+        λ h. decided _ (h .0) ∙ n14 .1 (tt, fails-exactly _ off .1 (h .1)),
+      );
+      register-found = (
+        λ e. let z = both-zero _ _ .0 e in let r = outside-room _ _ (z .1) in (z .0, r .0, r .1),
+        λ h. both-zero _ _ .1 (h .0, outside-none _ _ (h .1) (h .2)),
+      );
+    }
+
+-- ---- places
+
+module _ (c : Capture) (id : ℕ) (z : featureNumber c id ≡ 0) where
+  -- no two entries that are not empty have one identifier
+  only-one : (j k : ℕ) → j < k → k < entriesOf c → Filled (bankIn (barOf c) (tableOf c) j) → Filled (bankIn (barOf c) (tableOf c) k)
+      → bankIn (barOf c) (tableOf c) j .id ≡ bankIn (barOf c) (tableOf c) k .id → ⊥
+  only-one j k l b f g e =
+      table-faults (barOf c) (tableOf c) (entriesOf c) .none .0 (no-fault c (discovered c id z)) k b g .unlike (j, l, f, e)
+
+  same-entry : (j k : ℕ) → j < entriesOf c → k < entriesOf c → Filled (bankIn (barOf c) (tableOf c) j) → Filled (bankIn (barOf c) (tableOf c) k)
+      → bankIn (barOf c) (tableOf c) j .id ≡ bankIn (barOf c) (tableOf c) k .id → j ≡ k
+  same-entry j k a b f g e = by (leb j k) refl
+    where
+      by : (t : Bool) → leb j k ≡ t → j ≡ k
+      by true h = ⊎-elim (λ q. q) (λ l. absurd (only-one j k l b f g e)) (eq-or-lt-of-le (leb-true j k h))
+      by false h = absurd (only-one k j (leb-false j k h) a g f (sym e))
+
+  -- the bank of the entry with the identifier is the feature's
+  only-bank : (k : ℕ) → k < entriesOf c → Filled (bankIn (barOf c) (tableOf c) k) → bankIn (barOf c) (tableOf c) k .id ≡ id → bankIn (barOf c) (tableOf c) k ≡ bankFor c id
+  unfolding bankFor
+  only-bank k l f e = ap (bankIn (barOf c) (tableOf c)) (same-entry k _ l (index-there c id z) f (entry-filled c id z) (e ∙ sym (bank-id c id z)))
+
+empty-part : (c : Capture) (id n : ℕ) → instanceNumber c id n ≢ 0 → instancePart c id n ≡ []
+unfolding instancePart
+empty-part c id n h = rw (ne-eqb (instanceNumber c id n) 0 h)
+
+pub place-fact : (c : Capture) (id n : ℕ) → PlaceFact c id n
+place-fact c id n =
+    record {
+      only = only-bank c id;
+      part = λ z. sym (part-found c id n z);
+      inside = instance-inside c id n;
+      some = λ z. subst (λ (xs : List ℕ). 1 ≤ length xs) (part-found c id n z) (long z);
+      none = empty-part c id n;
+    }
+  where
+    long : instanceNumber c id n ≡ 0 → 1 ≤ length (take (sizeFor c id) (drop (startFor c id n) (barOf c)))
+    long z = omega (arith, length-take (sizeFor c id) (drop (startFor c id n) (barOf c)), length-drop (startFor c id n) (barOf c), instance-inside c id n z, size-some c id n z)
+
+-- ---- two instances
+
+-- instances of one bank: the later starts where the earlier has ended, or after
+after : (start size n m : ℕ) → n < m → start + n * size + size ≤ start + m * size
+after start size n m l =
+    let all : (n + 1) * size ≤ m * size = mul-le-mul {n₁ = n + 1} {m₁ = size} {n₂ = m} {m₂ = size} (omega arith) (omega arith) in
+    let next : (n + 1) * size ≡ n * size + size = add-mul n 1 size ∙ ap (λ (k : ℕ). n * size + k) (one-mul size) in
+    omega (arith, all, next)
+
+same-feature : (c : Capture) (id n m : ℕ) → n ≢ m → Shared (startFor c id n) (startFor c id n + sizeFor c id) (startFor c id m) (startFor c id m + sizeFor c id) → ⊥
+same-feature c id n m h s = by (leb n m) refl
+  where
+    by : (t : Bool) → leb n m ≡ t → ⊥
+    by true e = ⊎-elim (λ q. h q) (λ l. omega (arith, after (bankFor c id .start) (sizeFor c id) n m l, s .before-b, s .after-c)) (eq-or-lt-of-le (leb-true n m e))
+    by false e = omega (arith, after (bankFor c id .start) (sizeFor c id) m n (leb-false n m e), s .before-d, s .after-a)
+
+other-feature : (c : Capture) (id id′ n n′ : ℕ) → instanceNumber c id n ≡ 0 → instanceNumber c id′ n′ ≡ 0
+    → indexIn (barOf c) (tableOf c) (entriesOf c) id < indexIn (barOf c) (tableOf c) (entriesOf c) id′
+    → Shared (startFor c id n) (startFor c id n + sizeFor c id) (startFor c id′ n′) (startFor c id′ n′ + sizeFor c id′) → ⊥
+unfolding bankFor
+other-feature c id id′ n n′ z z′ l s =
+    let f = feature-found c id n z in
+    let f′ = feature-found c id′ n′ z′ in
+    table-faults (barOf c) (tableOf c) (entriesOf c) .none .0 (no-fault c (discovered c id f)) _ (index-there c id′ f′) (entry-filled c id′ f′) .apart
+    (inr (
+      _,
+      l,
+      entry-filled c id f,
+      record {
+        byte = s .byte;
+        after-a = omega (arith, s .after-a);
+        before-b = omega (arith, s .before-b, instance-in-bank c id n z);
+        after-c = omega (arith, s .after-c);
+        before-d = omega (arith, s .before-d, instance-in-bank c id′ n′ z′);
+      },
+    ))
+
+turned : {a b p q : ℕ} → Shared a b p q → Shared p q a b
+turned s = record { byte = s .byte; after-a = s .after-c; before-b = s .before-d; after-c = s .after-a; before-d = s .before-b }
+
+-- two features stand in two entries
+other-index : (c : Capture) (id id′ : ℕ) → featureNumber c id ≡ 0 → featureNumber c id′ ≡ 0 → id ≢ id′
+    → indexIn (barOf c) (tableOf c) (entriesOf c) id ≢ indexIn (barOf c) (tableOf c) (entriesOf c) id′
+unfolding bankFor
+other-index c id id′ z z′ h e = h (sym (bank-id c id z) ∙ ap (λ (k : ℕ). bankIn (barOf c) (tableOf c) k .id) e ∙ bank-id c id′ z′)
+
+pub apart-fact : (c : Capture) (id n id′ n′ : ℕ) → ApartFact c id n id′ n′
+apart-fact c id n id′ n′ z z′ h s = by (eqb id id′) refl (leb (indexIn (barOf c) (tableOf c) (entriesOf c) id) (indexIn (barOf c) (tableOf c) (entriesOf c) id′)) refl
+  where
+    by : (t : Bool) → eqb id id′ ≡ t → (u : Bool) → leb (indexIn (barOf c) (tableOf c) (entriesOf c) id) (indexIn (barOf c) (tableOf c) (entriesOf c) id′) ≡ u → ⊥
+    by true p u q =
+        let e : id′ ≡ id = sym (eqb-true id id′ p) in
+        same-feature c id n n′ (λ k. h (sym e, k)) (subst (λ (x : ℕ). Shared (startFor c id n) (startFor c id n + sizeFor c id) (startFor c x n′) (startFor c x n′ + sizeFor c x)) e s)
+    by false p true q =
+        ⊎-elim (λ k. other-index c id id′ (feature-found c id n z) (feature-found c id′ n′ z′) (eqb-false _ _ p) k) (λ l. other-feature c id id′ n n′ z z′ l s)
+        (eq-or-lt-of-le (leb-true _ _ q))
+    by false p false q = other-feature c id′ id n′ n z′ z (leb-false _ _ q) (turned s)
