@@ -3,3 +3,4 @@ pub mod PlaceLaws
 pub mod InsideLaws
 pub mod DiscoveryFact
 pub mod LookupFact
+pub mod Told

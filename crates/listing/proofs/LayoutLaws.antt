@@ -60,7 +60,7 @@ module _ (s : List ℕ) where
     pub whole : endOf s ≤ length s
     pub first-small : firstOf s ≤ 65536
 
-  tests : readable s ≡ true → (leb (firstOf s) 65536 ≡ true) × ((leb (secondOf s) 65536 ≡ true) × (leb (endOf s) (length s) ≡ true))
+  pub tests : readable s ≡ true → (leb (firstOf s) 65536 ≡ true) × ((leb (secondOf s) 65536 ≡ true) × (leb (endOf s) (length s) ≡ true))
   unfolding readable
   tests r =
       let h = and-both (leb (firstOf s) 65536) _ r in

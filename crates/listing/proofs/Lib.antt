@@ -1,2 +1,4 @@
 pub mod LayoutLaws
 pub mod LineLaws
+pub mod LayoutFact
+pub mod Told

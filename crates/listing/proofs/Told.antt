@@ -1,0 +1,52 @@
+-- Two answers that say the same are the same. Assumes nothing.
+use Prim.Native.Nat.{ℕ}
+use mathlib.Core.Path.{_≡_, refl, sym, ap, _∙_}
+use mathlib.Core.List.{List, [], _∷_}
+use lib.ListN.{getD}
+use Rattle.words.specs.Answers.{refused, gives}
+use Rattle.listing.specs.Lines.{Said, unreadable, answers}
+use Rattle.listing.specs.Told.{laid, listed, said}
+use Rattle.listing.specs.declared.layout.Laid.{Laid}
+use Rattle.listing.specs.declared.layout.Laid.the-variants as lay
+use Rattle.listing.specs.declared.lines.Listing.{Listing}
+use Rattle.listing.specs.declared.lines.Listing.the-variants.{Unreadable, Refused, Table}
+use Rattle.listing.specs.declared.lines.Line.{Line}
+use Rattle.listing.specs.declared.lines.Line.the-variants.{Says, Nothing}
+
+unlaid : List ℕ → Laid
+unlaid [] = lay.Unreadable
+unlaid (a ∷ l) = lay.Out (record { lo = a; «low_end» = getD l 0 0; hi = getD l 1 0; «high_end» = getD l 2 0 })
+
+pub laid-once : (a b : Laid) → laid a ≡ laid b → a ≡ b
+unfolding unlaid
+laid-once a b e = sym (back a) ∙ ap unlaid e ∙ back b
+  where
+    back : (a : Laid) → unlaid (laid a) ≡ a
+    back (lay.Out l) = refl
+    back lay.Unreadable = refl
+
+unlisted : Said → Listing
+unlisted unreadable = Unreadable
+unlisted (answers (refused n)) = Refused n
+unlisted (answers (gives l)) = Table (record { bir = getD l 0 0; start = getD l 1 0; entries = getD l 3 0 })
+
+pub listed-once : (a b : Listing) → listed a ≡ listed b → a ≡ b
+unfolding unlisted
+listed-once a b e = sym (back a) ∙ ap unlisted e ∙ back b
+  where
+    back : (a : Listing) → unlisted (listed a) ≡ a
+    back Unreadable = refl
+    back (Refused n) = refl
+    back (Table t) = refl
+
+unsaid : List ℕ → Line
+unsaid [] = Nothing
+unsaid (a ∷ l) = Says (record { id = a; instances = getD l 0 0; valid = getD l 1 0; size = getD l 2 0; start = getD l 3 0 })
+
+pub said-once : (a b : Line) → said a ≡ said b → a ≡ b
+unfolding unsaid
+said-once a b e = sym (back a) ∙ ap unsaid e ∙ back b
+  where
+    back : (a : Line) → unsaid (said a) ≡ a
+    back (Says f) = refl
+    back Nothing = refl

@@ -1,0 +1,126 @@
+// A worked night: the calls of energy's specs/Night.antt, one line for each with what came, then the totals beside the
+// wattmeter's sum of the whole counts, which no call is handed.
+use energy::calls::Answered;
+use energy::calls::Call;
+use energy::calls::Opening;
+use energy::calls::Reading;
+use energy::channels::Channel;
+use energy::hall;
+use libc::STDOUT_FILENO;
+
+fn say(words: &[u8], n: u64) {
+    io::write_all(STDOUT_FILENO, words);
+    io::print_decimal(STDOUT_FILENO, n);
+}
+
+fn say_seen(seen: Reading) {
+    say(b" tick ", seen.tick);
+    say(b" register ", seen.status);
+}
+
+fn say_call(n: usize, call: Call) {
+    match call {
+        Call::Open(asked) => {
+            say(b"open ", n as u64);
+            say(b" unit ", asked.unit as u64);
+            say(b" gap ", asked.gap as u64);
+            let seen = asked.seen;
+            say_seen(seen);
+        }
+        Call::Read(seen) => {
+            say(b"read ", n as u64);
+            say_seen(seen);
+        }
+        Call::Resume(seen) => {
+            say(b"resume ", n as u64);
+            say_seen(seen);
+        }
+        Call::Close => say(b"close ", n as u64),
+        Call::Ask => say(b"total ", n as u64),
+    }
+}
+
+fn say_answer(answer: Answered) {
+    match answer {
+        Answered::Accepted => {
+            io::write_all(STDOUT_FILENO, b": accepted\n");
+        }
+        Answered::Total(t) => {
+            say(b": ", t);
+            io::write_all(STDOUT_FILENO, b"\n");
+        }
+        Answered::Refused(n) => {
+            say(b": refused ", n as u64);
+            io::write_all(STDOUT_FILENO, b"\n");
+        }
+    }
+}
+
+fn run(channels: [Channel; 64], n: usize, call: Call) -> [Channel; 64] {
+    say_call(n, call);
+    let after = hall::call_on(channels, n, call);
+    let answer = after.answer;
+    say_answer(answer);
+    after.channels
+}
+
+fn opening(unit: u8, gap: u32, tick: u64, status: u64) -> Call {
+    Call::Open(Opening {
+        unit: unit,
+        gap: gap,
+        seen: Reading {
+            tick: tick,
+            status: status,
+        },
+    })
+}
+
+fn reading(tick: u64, status: u64) -> Call {
+    Call::Read(Reading {
+        tick: tick,
+        status: status,
+    })
+}
+
+fn resumption(tick: u64, status: u64) -> Call {
+    Call::Resume(Reading {
+        tick: tick,
+        status: status,
+    })
+}
+
+fn night() -> [Channel; 64] {
+    let c0 = hall::all_closed();
+    let c1 = run(c0, 3, opening(14, 1000, 5000, 4294967280));
+    let c2 = run(c1, 3, reading(6000, 16));
+    let c3 = run(c2, 3, reading(6001, 16));
+    let c4 = run(c3, 3, reading(6500, 15));
+    let c5 = run(c4, 3, reading(6500, 99));
+    let c6 = run(c5, 3, reading(7501, 99));
+    let c7 = run(c6, 3, resumption(90000, 5));
+    let c8 = run(c7, 3, reading(90500, 12));
+    let c9 = run(c8, 5, opening(14, 3600000, 0, 7));
+    let c10 = run(c9, 5, reading(3600000, 1007));
+    let c11 = run(c10, 64, reading(1, 0));
+    run(c11, 7, Call::Close)
+}
+
+// The rises of channel 3's whole count into its accepted readings: over the first turnover, none, over the second, and after the
+// resumption.
+fn wattmeter() -> u64 {
+    let first: u64 = 4294967312 - 4294967280;
+    let second: u64 = 4294967312 - 4294967312;
+    let third: u64 = 8589934607 - 4294967312;
+    let last: u64 = 1099511627788 - 1099511627781;
+    first + second + third + last
+}
+
+fn main() {
+    let c12 = night();
+    let c13 = run(c12, 3, Call::Ask);
+    say(b"wattmeter ", 3);
+    say_answer(Answered::Total(wattmeter()));
+    let c14 = run(c13, 5, Call::Ask);
+    say(b"hall total of unit ", 14);
+    say_answer(hall::hall_total(c14, 14));
+}

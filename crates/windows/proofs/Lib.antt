@@ -1,0 +1,5 @@
+pub mod CodeLaws
+pub mod UnitLaws
+pub mod Order
+pub mod Theorems
+pub mod Cases

@@ -1,0 +1,4 @@
+pub mod Windows
+pub mod Units
+pub mod Told
+pub mod Facts
