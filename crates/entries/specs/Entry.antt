@@ -9,14 +9,13 @@
 --   written s e       what the part holds then: the 8 bytes, and the rest as it was; all as it was where it is refused
 -- Assumes nothing.
 use Prim.Native.Nat.{ℕ}
-use mathlib.Core.Bool.{Bool, _||_}
 use mathlib.Core.List.{List, [], _∷_}
 use lib.Dec.{ltb}
 use lib.ListN.{length}
 use Rattle.words.specs.Answers.{Answer, gives, unless, first}
 use Rattle.words.specs.Bytes.{numberAt}
 use Rattle.words.specs.Fields.{field}
-use Rattle.words.specs.Tables.{writtenUnless}
+use Rattle.words.specs.Tables.{wider, writtenUnless}
 use Rattle.entries.specs.declared.entry.Entry.{Entry}
 
 -- TPMI_ID, NumEntries, EntrySize, CapOffset, Attribute, reserved
@@ -43,13 +42,8 @@ values e = e .id ∷ e .instances ∷ e .words ∷ e .offset ∷ e .attribute �
 unfoldable pub readOf : List ℕ → Answer
 readOf s = unless (first ((ltb (length s) 8, 25) ∷ [])) (gives (values (entryAt s 0)))
 
-unfoldable pub tooWide : Entry → Bool
-tooWide e =
-    ltb 255 (e .id) || (ltb 255 (e .instances) || (ltb 0xFFFF (e .words)
-    || (ltb 0xFFFF (e .offset) || (ltb 3 (e .attribute) || ltb 0x3FFF (e .reserved)))))
-
 unfoldable pub writeNumber : List ℕ → Entry → ℕ
-writeNumber s e = first ((ltb (length s) 8, 25) ∷ (tooWide e, 17) ∷ [])
+writeNumber s e = first ((ltb (length s) 8, 25) ∷ (wider widths (values e), 17) ∷ [])
 
 unfoldable pub written : List ℕ → Entry → List ℕ
 written s e = writtenUnless (writeNumber s e) 8 widths (values e) s

@@ -7,27 +7,19 @@ use mathlib.Core.Logic.{_⊎_, _↔_, _≢_}
 use mathlib.Core.List.{List}
 use lib.ListN.{length}
 use Rattle.words.specs.Facts.{ValueTrips}
-use Rattle.entries.specs.Entry.{entryAt, writeNumber, written}
+use Rattle.words.specs.Tables.{Fit}
+use Rattle.entries.specs.Entry.{widths, values, entryAt, writeNumber, written}
 use Rattle.entries.specs.Faults.{bankIn, faultAt, faultsOf}
 use Rattle.entries.specs.declared.entry.Entry.{Entry}
 use Rattle.entries.specs.declared.faults.Bank.{Bank}
 
 -- ---- one entry
 
--- each number within its width
-pub record Narrow (e : Entry) : Type 0 where
-  pub id : e .id ≤ 255
-  pub instances : e .instances ≤ 255
-  pub words : e .words ≤ 0xFFFF
-  pub offset : e .offset ≤ 0xFFFF
-  pub attribute : e .attribute ≤ 3
-  pub reserved : e .reserved ≤ 0x3FFF
-
 -- Writing, each number exactly on its condition and none tested before it.
 pub record EntryAnswers (s : List ℕ) (e : Entry) : Type 0 where
   pub short : (writeNumber s e ≡ 25) ↔ (length s < 8)
-  pub wide : (writeNumber s e ≡ 17) ↔ ((8 ≤ length s) × (Narrow e → ⊥))
-  pub right : (writeNumber s e ≡ 0) ↔ ((8 ≤ length s) × Narrow e)
+  pub wide : (writeNumber s e ≡ 17) ↔ ((8 ≤ length s) × (Fit widths (values e) → ⊥))
+  pub right : (writeNumber s e ≡ 0) ↔ ((8 ≤ length s) × Fit widths (values e))
 
 -- The entry at the start of a part, and its round trips; whatever was read can be written where there is room.
 abbrev pub entryIn : List ℕ → Entry

@@ -1,7 +1,7 @@
 // A PFS entry of 8 bytes as a value, with all its fields, the reserved one too: read from a part and written to one.
 ghost use mathlib.Core.Path.{_≡_};
-ghost use Rattle.words.specs.Tables.{withFields};
-ghost use Rattle.entries.specs.Entry.{widths, values, entryOf, entryAt, readOf, tooWide, writeNumber, written};
+ghost use Rattle.words.specs.Tables.{withFields, wider};
+ghost use Rattle.entries.specs.Entry.{widths, values, entryOf, entryAt, readOf, writeNumber, written};
 ghost use Rattle.entries.specs.Told.{decoded};
 use words::bytes::store_u64;
 use words::bytes::u64_at;
@@ -58,7 +58,7 @@ pub fn read(part: &[u8]) -> Decoded
 
 // A number is too wide for its field.
 fn too_wide(e: Entry) -> bool
-    ensures answer { λ r. ⌜ r ≡ tooWide e ⌝ }
+    ensures answer { λ r. ⌜ r ≡ wider widths (values e) ⌝ }
 {
     if 255 < e.id {
         return true;
@@ -75,7 +75,10 @@ fn too_wide(e: Entry) -> bool
     if 3 < e.attribute {
         return true;
     }
-    0x3FFF < e.reserved
+    if 0x3FFF < e.reserved {
+        return true;
+    }
+    false
 }
 
 fn word_of(e: Entry) -> u64

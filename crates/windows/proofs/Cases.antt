@@ -6,9 +6,9 @@ use native.Mathlib.Omega.{arith}
 use Rattle.words.specs.Answers.{Answer, refused, gives, first}
 use Rattle.words.specs.Below.{least}
 use Rattle.words.specs.Fields.{field, withField}
-use Rattle.words.specs.Tables.{withFields}
+use Rattle.words.specs.Tables.{withFields, wider}
 use Rattle.windows.specs.Windows.{quartersOf, longEnough, placeOf, windowNumber, windowOf}
-use Rattle.windows.specs.Units.{unitsOf, values, wider, writeNumber, registerOf, writtenOf}
+use Rattle.windows.specs.Units.{unitsOf, values, writeNumber, registerOf, writtenOf}
 
 -- at T = 10 a time unit is 1/1,024 s: 0 ms, 1 ms, 1,000 ms and 28,000 ms; at T = 15 the longest window and one millisecond more; T 16
 abbrev asked-for : List Answer

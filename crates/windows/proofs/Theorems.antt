@@ -12,16 +12,16 @@ use lib.ListN.{getD}
 use Rattle.words.specs.Answers.{refused, gives}
 use Rattle.words.specs.Fields.{field}
 use Rattle.words.specs.Facts.{IsLeast}
-use Rattle.words.specs.Tables.{withFields, Fit}
+use Rattle.words.specs.Tables.{withFields, Fit, wider}
 use Rattle.words.proofs.AnswerLaws.{unless-refused, first-zero}
 use Rattle.words.proofs.BelowLaws.{is-least, least-once}
 use Rattle.words.proofs.FieldLaws.{field-lt}
-use Rattle.words.proofs.TableLaws.{fields-with, fields-fit, fields-whole, fields-lt}
+use Rattle.words.proofs.TableLaws.{fit-narrow, narrow-fit, fields-with, fields-fit, fields-whole, fields-lt}
 use Rattle.words.proofs.TestLaws.{fails-exactly, never-both}
-use Rattle.words.proofs.Theorems.{exact-fact, unless-fact}
+use Rattle.words.proofs.Theorems.{exact-fact, unless-fact, wider-fact}
 use Rattle.windows.specs.Windows.{quartersOf, codeAt, asked, longEnough, placeOf, windowNumber, windowOf}
-use Rattle.windows.specs.Units.{widths, unitsOf, values, wider, writeNumber, registerOf, writtenOf}
-use Rattle.windows.specs.Facts.{Ranged, Before, Enough, IsFirst, IsShortest, NoneLong, WindowFact, WiderFact, UnitsFact, TimeRead, ToldOnce, WrittenOnce}
+use Rattle.windows.specs.Units.{widths, unitsOf, values, writeNumber, registerOf, writtenOf}
+use Rattle.windows.specs.Facts.{Ranged, Before, Enough, IsFirst, IsShortest, NoneLong, WindowFact, UnitsFact, TimeRead, ToldOnce, WrittenOnce}
 use Rattle.windows.specs.declared.codes.Window.{Window}
 use Rattle.windows.specs.declared.codes.Window.the-variants as window
 use Rattle.windows.specs.declared.units.Units.{Units}
@@ -29,7 +29,7 @@ use Rattle.windows.specs.declared.units.Written.{Written}
 use Rattle.windows.specs.declared.units.Written.the-variants.{Register, Refused}
 use Rattle.windows.proofs.CodeLaws.{quarters-of, quarters-is, code-at, answer-17, answer-19, answer-code}
 use Rattle.windows.proofs.Order.{code-fact, any-code, not-before, lasts-once}
-use Rattle.windows.proofs.UnitLaws.{fit-narrow, narrow-fit, values-of, write-wide, write-right}
+use Rattle.windows.proofs.UnitLaws.{values-of, write-wide, write-right}
 
 -- ---- the window code
 
@@ -171,9 +171,6 @@ module _ (ms unit : ℕ) where
       by false e = inl (answer-17 ms unit (leb-false unit 15 e))
 
 -- ---- units
-
-pub wider-fact : (ws vs : List ℕ) → WiderFact ws vs
-wider-fact ws vs e = (narrow-fit ws vs e, fit-narrow ws vs)
 
 values-once : (u v : Units) → values u ≡ values v → u ≡ v
 values-once u v e = ap (λ (l : List ℕ). record { power = getD l 0 0; reserved4 = getD l 1 0; energy = getD l 2 0; reserved11 = getD l 3 0; time = getD l 4 0; reserved16 = getD l 5 0 }) e

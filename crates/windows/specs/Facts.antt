@@ -11,7 +11,7 @@ use Rattle.words.specs.Answers.{refused, gives}
 use Rattle.words.specs.Fields.{field}
 use Rattle.words.specs.Tables.{Fit}
 use Rattle.windows.specs.Windows.{quartersOf, codeOf, windowOf}
-use Rattle.windows.specs.Units.{widths, unitsOf, values, wider, writtenOf}
+use Rattle.windows.specs.Units.{widths, unitsOf, values, writtenOf}
 use Rattle.windows.specs.Told.{told, written}
 use Rattle.windows.specs.declared.codes.Window.{Window}
 use Rattle.windows.specs.declared.units.Units.{Units}
@@ -86,10 +86,6 @@ pub record WindowFact (ms unit : ℕ) : Type 0 where
   pub complete : (windowOf ms unit ≡ refused 17) ⊎ ((windowOf ms unit ≡ refused 19) ⊎ ((code : ℕ) × (windowOf ms unit ≡ gives (code ∷ []))))
 
 -- ---- units
-
--- The test of widths decides the plain statement, for any table and as many numbers.
-abbrev pub WiderFact : List ℕ → List ℕ → Type 0
-WiderFact ws vs = length ws ≡ length vs → (wider ws vs ≡ false) ↔ Fit ws vs
 
 -- Writing: 17 exactly if a number does not fit; a content is given exactly if it has 64 bits and says these units; one of the two always
 -- comes. So a register read and written back is the same 64 bits, reserved ones too, and units written and read back are the same.

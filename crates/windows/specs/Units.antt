@@ -3,18 +3,15 @@
 --   widths          the register's fields from bit 0 up, the reserved ones too
 --   unitsOf x       the units that a register's content says
 --   values u        their numbers in the order of the table
---   wider ws vs     some number of a table does not fit its width
 --   writeNumber u   what writing them answers: 17, 0 where they are accepted
 --   registerOf u    the content that says them
 --   writtenOf u     the answer: 17, or the content
 -- Assumes nothing.
-use Prim.Native.Nat.{ℕ, _^_}
-use mathlib.Core.Bool.{Bool, false, _||_}
+use Prim.Native.Nat.{ℕ}
 use mathlib.Core.List.{List, [], _∷_}
-use lib.Dec.{leb}
 use Rattle.words.specs.Answers.{Answer, gives, first, unless}
 use Rattle.words.specs.Fields.{field}
-use Rattle.words.specs.Tables.{withFields}
+use Rattle.words.specs.Tables.{withFields, wider}
 use Rattle.windows.specs.declared.units.Units.{Units}
 
 -- PWR_UNIT, reserved 5:4, ENERGY_UNIT, reserved 11, TIME_UNIT, reserved 63:16
@@ -34,11 +31,6 @@ unitsOf x =
 
 abbrev pub values : Units → List ℕ
 values u = u .power ∷ u .reserved4 ∷ u .energy ∷ u .reserved11 ∷ u .time ∷ u .reserved16 ∷ []
-
-unfoldable pub wider : List ℕ → List ℕ → Bool
-wider [] vs = false
-wider (w ∷ ws) [] = false
-wider (w ∷ ws) (v ∷ vs) = leb (2 ^ w) v || wider ws vs
 
 unfoldable pub writeNumber : Units → ℕ
 writeNumber u = first ((wider widths (values u), 17) ∷ [])

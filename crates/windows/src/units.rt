@@ -1,7 +1,8 @@
 // The units of a domain, register 1, as a value with all its fields, the reserved ones too: read from the register's 64 bits and
 // written to them.
 ghost use mathlib.Core.Path.{_≡_};
-ghost use Rattle.windows.specs.Units.{widths, values, unitsOf, wider, registerOf, writtenOf};
+ghost use Rattle.words.specs.Tables.{wider};
+ghost use Rattle.windows.specs.Units.{widths, values, unitsOf, registerOf, writtenOf};
 ghost use Rattle.windows.specs.Told.{written};
 use words::fields::field;
 use words::fields::with_field;

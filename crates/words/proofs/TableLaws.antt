@@ -1,14 +1,18 @@
 -- The field fact, for a table of fields: a structure's round trips, for any list of widths, and two words side by side. Assumes nothing.
 use Prim.Native.Nat.{ℕ, zero, suc, _+_, _*_, _/_, _%_, _^_, _≤_, _<_}
 use mathlib.Core.Path.{_≡_, refl, sym, ap, ap₂, _∙_, subst}
+use mathlib.Core.Bool.{true, false, or-false}
 use mathlib.Core.List.{List, [], _∷_, _++_}
-use native.Mathlib.Nat.{add-zero, zero-add, add-assoc, add-comm, add-mul, mul-assoc, mul-suc, pow-suc, mod-eq-of-lt, mod-one, le-dest, mul-add-div-right, mul-add-mod-self-right}
+use native.Mathlib.Nat.{not-suc-le-zero, le-of-suc-le-suc, add-zero, zero-add, add-assoc, add-comm, add-mul, mul-assoc, mul-suc, pow-suc, mod-eq-of-lt, mod-one, le-dest, mul-add-div-right, mul-add-mod-self-right}
 use native.Mathlib.Omega.{arith}
+use borrow.Author.Tests.{le-leb, lt-leb, leb-false}
+use lib.Dec.{leb}
 use lib.Pow.{pow-pos, pow-add, shr-shr, high, low, mod-pow-add}
 use lib.ListN.{length, getD}
 use Rattle.words.specs.Bytes.{AllBytes, numberAt, stored}
 use Rattle.words.specs.Fields.{field, withField}
-use Rattle.words.specs.Tables.{fields, withFields, total, Fit}
+use Rattle.words.specs.Tables.{fields, withFields, total, Fit, wider}
+use Rattle.words.proofs.TestLaws.{or-skip, or-take, or-second, or-neither}
 use Rattle.words.proofs.NumberLaws.{number-lt, number-byte}
 use Rattle.words.proofs.StoreLaws.{number-stored, stored-number, stored-byte}
 use Rattle.words.proofs.FieldLaws.{field-with-fit, field-with-below, field-lt, field-under, field-over, with-field, with-mod, with-lt}
@@ -66,6 +70,36 @@ unfolding withFields
 fields-lt p [] x vs n h l = l
 fields-lt p (w ∷ ws) x [] n h l = l
 fields-lt p (w ∷ ws) x (v ∷ vs) n h l = fields-lt (p + w) ws (withField p w x v) vs n (omega arith) (with-lt p w x v n (omega arith) l)
+
+-- ---- too wide
+
+pub wider-skip : (w v : ℕ) (ws vs : List ℕ) → v < 2 ^ w → wider (w ∷ ws) (v ∷ vs) ≡ wider ws vs
+unfolding wider
+wider-skip w v ws vs h = or-skip _ (lt-leb _ _ h)
+
+pub wider-last : (w v : ℕ) → wider (w ∷ []) (v ∷ []) ≡ leb (2 ^ w) v
+unfolding wider
+wider-last w v = or-false _
+
+-- one number that does not fit is enough
+pub wider-at : (ws vs : List ℕ) (k : ℕ) → k < length ws → 2 ^ getD ws k 0 ≤ getD vs k 0 → wider ws vs ≡ true
+unfolding wider
+wider-at [] vs k l h = absurd (not-suc-le-zero l)
+wider-at (w ∷ ws) [] k l h = absurd (omega (arith, pow-pos (getD (w ∷ ws) k 0)))
+wider-at (w ∷ ws) (v ∷ vs) zero l h = or-take _ (le-leb _ _ h)
+wider-at (w ∷ ws) (v ∷ vs) (suc k) l h = or-second (leb (2 ^ w) v) (wider-at ws vs k (le-of-suc-le-suc l) h)
+
+pub fit-narrow : (ws vs : List ℕ) → Fit ws vs → wider ws vs ≡ false
+unfolding wider
+fit-narrow [] [] f = refl
+fit-narrow (w ∷ ws) (v ∷ vs) f = or-skip _ (lt-leb _ _ (f .0)) ∙ fit-narrow ws vs (f .1)
+
+pub narrow-fit : (ws vs : List ℕ) → length ws ≡ length vs → wider ws vs ≡ false → Fit ws vs
+unfolding wider
+narrow-fit [] [] e h = tt
+narrow-fit [] (v ∷ vs) e h = absurd (omega arith)
+narrow-fit (w ∷ ws) [] e h = absurd (omega arith)
+narrow-fit (w ∷ ws) (v ∷ vs) e h = let n = or-neither _ _ h in (leb-false _ _ (n .0), narrow-fit ws vs (omega arith) (n .1))
 
 -- ---- in bytes: a structure of n bytes whose table takes all of their bits (of a table in numerals `size` is refl)
 

@@ -12,11 +12,11 @@ use Rattle.words.specs.Fields.{withField, bit}
 use Rattle.words.specs.Tables.{withFields, total}
 use Rattle.words.specs.Answers.{unless, gives, first}
 use Rattle.words.specs.Below.{firstBelow, least}
-use Rattle.words.specs.Facts.{NumberFact, StoreFact, FieldFact, BesideFact, SameBits, RoundTrips, SideBySide, StoredTwo, ExactFact, FirstFact, Decides, UnlessFact, EarliestFact, AnyFact, FaultFact, IsLeast, LeastFact, MaskFact}
+use Rattle.words.specs.Facts.{NumberFact, StoreFact, FieldFact, BesideFact, SameBits, RoundTrips, WiderFact, SideBySide, StoredTwo, ExactFact, FirstFact, Decides, UnlessFact, EarliestFact, AnyFact, FaultFact, IsLeast, LeastFact, MaskFact}
 use Rattle.words.proofs.NumberLaws.{number-byte, number-lt, number-past, number-split}
 use Rattle.words.proofs.StoreLaws.{stored-byte, stored-other, length-stored, stored-short, number-stored, stored-number, stored-stored, stored-two}
 use Rattle.words.proofs.FieldLaws.{field-with, field-with-inside, field-with-below, field-with-above, field-lt, with-field, with-with, with-lt, same-bits}
-use Rattle.words.proofs.TableLaws.{structure-back, structure-kept, structure-carried, side-read, side-written}
+use Rattle.words.proofs.TableLaws.{fit-narrow, narrow-fit, structure-back, structure-kept, structure-carried, side-read, side-written}
 use Rattle.words.proofs.AnswerLaws.{first-exactly, first-wins, unless-number, unless-gives, unless-refused, first-decides, decides-first, first-none, first-zero, earliest-pass, earliest-stop, earliest-zero, earliest-end}
 use Rattle.words.proofs.BelowLaws.{any-some, any-found, any-all, all-any, fault-all, all-fault, fault-some, fault-stop, is-least, least-once}
 use Rattle.words.proofs.MaskLaws.{mask-bit, mask-lt, ones-mask}
@@ -77,6 +77,9 @@ round-trips ws n size xs at y fits =
       outside = λ vs. stored-other xs at n (withFields 0 ws y vs);
       carried = structure-carried ws n size xs at y fits;
     }
+
+pub wider-fact : (ws vs : List ℕ) → WiderFact ws vs
+wider-fact ws vs e = (narrow-fit ws vs e, fit-narrow ws vs)
 
 pub side-by-side : (ws us : List ℕ) (x y : ℕ) → x < 2 ^ total ws → SideBySide ws us x y
 side-by-side ws us x y h = record { read = side-read ws us x y h; written = side-written ws us x y h }

@@ -11,7 +11,7 @@ use lib.Dec.{T, ltb, eqb}
 use lib.Count.{ones}
 use Rattle.words.specs.Bytes.{AllBytes, numberAt, stored}
 use Rattle.words.specs.Fields.{field, withField, bit}
-use Rattle.words.specs.Tables.{fields, withFields, total, Fit}
+use Rattle.words.specs.Tables.{fields, withFields, total, Fit, wider}
 use Rattle.words.specs.Answers.{Answer, refused, gives, unless, first, earliest}
 use Rattle.words.specs.Below.{anyBelow, firstBelow, least}
 use Rattle.words.specs.Masks.{one, howMany, maskOf}
@@ -70,6 +70,10 @@ pub record RoundTrips (ws : List ℕ) (n : ℕ) (xs : List ℕ) (at y : ℕ) : T
   pub outside : (vs : List ℕ) (k : ℕ) → (k < at) ⊎ (at + n ≤ k) → getD (stored xs at n (withFields 0 ws y vs)) k 0 ≡ getD xs k 0
   pub carried : AllBytes xs → (zs : List ℕ) (to : ℕ) → to + n ≤ length zs
       → (k : ℕ) → k < n → getD (stored zs to n (withFields 0 ws y (fields 0 ws (numberAt xs at n)))) (to + k) 0 ≡ getD xs (at + k) 0
+
+-- The test of widths decides `Fit`, for as many values as fields.
+abbrev pub WiderFact : List ℕ → List ℕ → Type 0
+WiderFact ws vs = length ws ≡ length vs → (wider ws vs ≡ false) ↔ Fit ws vs
 
 -- The same of a structure as a value of the code: `read` makes the value of a part's first n bytes, `number` says what writing a value
 -- answers, and `written` what the part then holds. What is read and written back, here or to another part, is the same bits; what is

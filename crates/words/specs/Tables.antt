@@ -4,12 +4,13 @@
 --   withFields p ws x vs   x with the value of vs in each field
 --   total ws               the bits that the table takes
 --   Fit ws vs              a value for each field, each below 2 to its width
+--   wider ws vs            some value does not fit its field
 --   writtenUnless          what a part holds once a structure of n bytes was written to it: as it was where the number is not 0
 -- Assumes nothing.
 use Prim.Native.Nat.{ℕ, _+_, _^_, _<_}
-use mathlib.Core.Bool.{cond}
+use mathlib.Core.Bool.{Bool, false, cond, _||_}
 use mathlib.Core.List.{List, [], _∷_}
-use lib.Dec.{eqb}
+use lib.Dec.{leb, eqb}
 use Rattle.words.specs.Bytes.{stored}
 use Rattle.words.specs.Fields.{field, withField}
 
@@ -31,6 +32,11 @@ Fit [] [] = Unit
 Fit [] (v ∷ vs) = ⊥
 Fit (w ∷ ws) [] = ⊥
 Fit (w ∷ ws) (v ∷ vs) = (v < 2 ^ w) × Fit ws vs
+
+unfoldable pub wider : List ℕ → List ℕ → Bool
+wider [] vs = false
+wider (w ∷ ws) [] = false
+wider (w ∷ ws) (v ∷ vs) = leb (2 ^ w) v || wider ws vs
 
 abbrev pub writtenUnless : ℕ → ℕ → List ℕ → List ℕ → List ℕ → List ℕ
 writtenUnless number n ws vs s = cond (eqb number 0) (stored s 0 n (withFields 0 ws 0 vs)) s
