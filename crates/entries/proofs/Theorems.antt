@@ -10,6 +10,7 @@ use lib.ListN.{length, getD}
 use Rattle.words.specs.Answers.{Answer, refused, gives}
 use Rattle.words.specs.Tables.{Fit, wider}
 use Rattle.words.proofs.TableLaws.{fields-fit, fit-narrow}
+use Rattle.words.proofs.AnswerLaws.{once}
 use Rattle.words.proofs.Structures.{value-trips}
 use Rattle.words.proofs.TestLaws.{fails-exactly}
 use Rattle.words.proofs.Theorems.{exact-fact, wider-fact}
@@ -67,7 +68,7 @@ undecoded (gives l) = Structure (rebuilt l)
 
 pub decoded-once : (a b : Decoded) → decoded a ≡ decoded b → a ≡ b
 unfolding undecoded rebuilt
-decoded-once a b e = sym (back a) ∙ ap undecoded e ∙ back b
+decoded-once = once decoded undecoded back
   where
     back : (a : Decoded) → undecoded (decoded a) ≡ a
     back (Structure e) = refl

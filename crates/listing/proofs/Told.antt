@@ -1,9 +1,10 @@
 -- Two answers that say the same are the same. Assumes nothing.
 use Prim.Native.Nat.{ℕ}
-use mathlib.Core.Path.{_≡_, refl, sym, ap, _∙_}
+use mathlib.Core.Path.{_≡_, refl}
 use mathlib.Core.List.{List, [], _∷_}
 use lib.ListN.{getD}
 use Rattle.words.specs.Answers.{refused, gives}
+use Rattle.words.proofs.AnswerLaws.{once}
 use Rattle.listing.specs.Lines.{Said, unreadable, answers}
 use Rattle.listing.specs.Told.{laid, listed, said}
 use Rattle.listing.specs.declared.layout.Laid.{Laid}
@@ -19,7 +20,7 @@ unlaid (a ∷ l) = lay.Out (record { lo = a; «low_end» = getD l 0 0; hi = getD
 
 pub laid-once : (a b : Laid) → laid a ≡ laid b → a ≡ b
 unfolding unlaid
-laid-once a b e = sym (back a) ∙ ap unlaid e ∙ back b
+laid-once = once laid unlaid back
   where
     back : (a : Laid) → unlaid (laid a) ≡ a
     back (lay.Out l) = refl
@@ -32,7 +33,7 @@ unlisted (answers (gives l)) = Table (record { bir = getD l 0 0; start = getD l 
 
 pub listed-once : (a b : Listing) → listed a ≡ listed b → a ≡ b
 unfolding unlisted
-listed-once a b e = sym (back a) ∙ ap unlisted e ∙ back b
+listed-once = once listed unlisted back
   where
     back : (a : Listing) → unlisted (listed a) ≡ a
     back Unreadable = refl
@@ -45,7 +46,7 @@ unsaid (a ∷ l) = Says (record { id = a; instances = getD l 0 0; valid = getD l
 
 pub said-once : (a b : Line) → said a ≡ said b → a ≡ b
 unfolding unsaid
-said-once a b e = sym (back a) ∙ ap unsaid e ∙ back b
+said-once = once said unsaid back
   where
     back : (a : Line) → unsaid (said a) ≡ a
     back (Says f) = refl

@@ -10,7 +10,7 @@ use lib.ListN.{length, getD}
 use Rattle.words.specs.Answers.{Answer, refused, gives}
 use Rattle.words.specs.Tables.{Fit}
 use Rattle.words.proofs.TestLaws.{fails-exactly}
-use Rattle.words.proofs.AnswerLaws.{first-none, first-zero}
+use Rattle.words.proofs.AnswerLaws.{once, first-none, first-zero}
 use Rattle.words.proofs.FieldLaws.{field-lt}
 use Rattle.words.proofs.TableLaws.{fit-append}
 use Rattle.words.proofs.Structures.{value-trips}
@@ -148,14 +148,20 @@ undecoded (gives l) =
 
 pub decoded-once : (a b : Decoded) → decoded a ≡ decoded b → a ≡ b
 unfolding undecoded
-decoded-once a b e = sym (back a) ∙ ap undecoded e ∙ back b
+decoded-once = once decoded undecoded back
   where
     back : (a : Decoded) → undecoded (decoded a) ≡ a
     back (decode.Structure v) = refl
     back (decode.Refused n) = refl
 
+unwalked : Answer → Walked
+unwalked (refused n) = Refused n
+unwalked (gives l) = Taken (getD l 0 0)
+
 pub walked-once : (a b : Walked) → walked a ≡ walked b → a ≡ b
-walked-once (Taken x) (Taken y) e = cc
-walked-once (Refused m) (Refused n) e = cc
-walked-once (Taken x) (Refused n) e = let z : _≡_ {A = ℕ} 0 1 = cc in absurd (omega arith)
-walked-once (Refused m) (Taken y) e = let z : _≡_ {A = ℕ} 0 1 = cc in absurd (omega arith)
+unfolding unwalked
+walked-once = once walked unwalked back
+  where
+    back : (a : Walked) → unwalked (walked a) ≡ a
+    back (Taken at) = refl
+    back (Refused n) = refl

@@ -31,6 +31,10 @@ pub unless-number-in : (n : ℕ) (xs : List ℕ) → numberIn (unless n (gives x
 unless-number-in zero xs = refl
 unless-number-in (suc n) xs = refl
 
+-- what has a way back tells two things apart: why two answers that say the same are the same
+pub once : {A B : Type 0} (f : A → B) (g : B → A) → ((a : A) → g (f a) ≡ a) → (a b : A) → f a ≡ f b → a ≡ b
+once f g back a b e = sym (back a) ∙ ap g e ∙ back b
+
 -- ---- the first test that holds
 
 T-both : (a b : Bool) → T (a && b) → T a × T b
