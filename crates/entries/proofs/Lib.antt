@@ -2,3 +2,4 @@ pub mod EntryLaws
 pub mod FaultLaws
 pub mod Theorems
 pub mod FaultFact
+pub mod Cases

@@ -8,6 +8,7 @@ use crate::places::Found;
 use crate::places::Place;
 use crate::places::Value;
 use crate::places::bar_of;
+use crate::places::number_of;
 use words::bytes::u64_at;
 
 // 14 where an offset is no multiple of 8, or its 8 bytes end past an instance of so many bytes; else 0.
@@ -68,7 +69,7 @@ pub fn register<'a>(
 {
     let found = register_place(config, lo, low, hi, high, id, n, offset);
     let Found::At(p) = found else {
-        return Value::Refused(crate::places::number_of(found));
+        return Value::Refused(number_of(found));
     };
     Value::Is(u64_at(bar_of(p.bir, lo, low, high), p.start))
 }

@@ -12,7 +12,7 @@ use Rattle.words.specs.Fields.{withField, bit}
 use Rattle.words.specs.Tables.{withFields, total}
 use Rattle.words.specs.Answers.{unless, gives, first}
 use Rattle.words.specs.Below.{firstBelow, least}
-use Rattle.words.specs.Facts.{NumberFact, StoreFact, FieldFact, BesideFact, SameBits, RoundTrips, WiderFact, SideBySide, StoredTwo, ExactFact, FirstFact, Decides, UnlessFact, EarliestFact, AnyFact, FaultFact, IsLeast, LeastFact, MaskFact}
+use Rattle.words.specs.Facts.{NumberFact, StoreFact, FieldFact, BesideFact, SameBitsFact, RoundTrips, WiderFact, SideBySide, StoredTwoFact, ExactFact, FirstFact, Decides, UnlessFact, EarliestFact, AnyFact, FaultFact, IsLeast, LeastFact, MaskFact}
 use Rattle.words.proofs.NumberLaws.{number-byte, number-lt, number-past, number-split}
 use Rattle.words.proofs.StoreLaws.{stored-byte, stored-other, length-stored, stored-short, number-stored, stored-number, stored-stored, stored-two}
 use Rattle.words.proofs.FieldLaws.{field-with, field-with-inside, field-with-below, field-with-above, field-lt, with-field, with-with, with-lt, same-bits}
@@ -66,7 +66,7 @@ beside-fact p w x v q u =
       above = field-with-above p w x v q u;
     }
 
-pub same-bits-fact : (n x y : ℕ) → SameBits n x y
+pub same-bits-fact : (n x y : ℕ) → SameBitsFact n x y
 same-bits-fact = same-bits
 
 pub round-trips : (ws : List ℕ) (n : ℕ) → total ws ≡ 8 * n → (xs : List ℕ) (at y : ℕ) → y < 256 ^ n → RoundTrips ws n xs at y
@@ -84,7 +84,7 @@ wider-fact ws vs e = (narrow-fit ws vs e, fit-narrow ws vs)
 pub side-by-side : (ws us : List ℕ) (x y : ℕ) → x < 2 ^ total ws → SideBySide ws us x y
 side-by-side ws us x y h = record { read = side-read ws us x y h; written = side-written ws us x y h }
 
-pub stored-two-fact : (xs : List ℕ) (at m n a b : ℕ) → StoredTwo xs at m n a b
+pub stored-two-fact : (xs : List ℕ) (at m n a b : ℕ) → StoredTwoFact xs at m n a b
 stored-two-fact = stored-two
 
 pub first-fact : (ts : List (Bool × ℕ)) → FirstFact ts

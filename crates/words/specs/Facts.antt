@@ -1,7 +1,7 @@
 -- What is proved of the definitions of this crate, for every number and every list. Each record is one theorem, to be read
--- without its proof; proofs/Theorems.antt has a proof of each, under the same name with hyphens.
+-- without its proof; proofs/Theorems.antt has a proof of each, under the same name with hyphens (ValueTrips: proofs/Structures.antt).
 -- Assumes nothing.
-use Prim.Native.Nat.{ℕ, zero, suc, _+_, _*_, _/_, _%_, _^_, _≤_, _<_}
+use Prim.Native.Nat.{ℕ, _+_, _*_, _/_, _%_, _^_, _≤_, _<_}
 use mathlib.Core.Path.{_≡_}
 use mathlib.Core.Logic.{_⊎_, _↔_, _≢_}
 use mathlib.Core.Bool.{Bool, true, false, not, _&&_}
@@ -12,7 +12,7 @@ use lib.Count.{ones}
 use Rattle.words.specs.Bytes.{AllBytes, numberAt, stored}
 use Rattle.words.specs.Fields.{field, withField, bit}
 use Rattle.words.specs.Tables.{fields, withFields, total, Fit, wider}
-use Rattle.words.specs.Answers.{Answer, refused, gives, unless, first, earliest}
+use Rattle.words.specs.Answers.{refused, gives, unless, first, earliest}
 use Rattle.words.specs.Below.{anyBelow, firstBelow, least}
 use Rattle.words.specs.Masks.{one, howMany, maskOf}
 
@@ -56,8 +56,8 @@ pub record BesideFact (p w x v q u : ℕ) : Type 0 where
   pub above : p + w ≤ q → field q u (withField p w x v) ≡ field q u x
 
 -- Two numbers of n bits with the same bits are equal.
-abbrev pub SameBits : ℕ → ℕ → ℕ → Type 0
-SameBits n x y = x < 2 ^ n → y < 2 ^ n → ((k : ℕ) → k < n → bit k x ≡ bit k y) → x ≡ y
+abbrev pub SameBitsFact : ℕ → ℕ → ℕ → Type 0
+SameBitsFact n x y = x < 2 ^ n → y < 2 ^ n → ((k : ℕ) → k < n → bit k x ≡ bit k y) → x ≡ y
 
 -- ---- structures: tables of widths
 
@@ -93,8 +93,8 @@ pub record SideBySide (ws us : List ℕ) (x y : ℕ) : Type 0 where
       → withFields 0 (ws ++ us) (y * 2 ^ total ws + x) (vs ++ ts) ≡ withFields 0 us y ts * 2 ^ total ws + withFields 0 ws x vs
 
 -- Two numbers stored one after the other are one number stored, where both fit.
-abbrev pub StoredTwo : List ℕ → ℕ → ℕ → ℕ → ℕ → ℕ → Type 0
-StoredTwo xs at m n a b = a < 256 ^ m → at + (m + n) ≤ length xs
+abbrev pub StoredTwoFact : List ℕ → ℕ → ℕ → ℕ → ℕ → ℕ → Type 0
+StoredTwoFact xs at m n a b = a < 256 ^ m → at + (m + n) ≤ length xs
     → stored (stored xs at m a) (at + m) n b ≡ stored xs at (m + n) (b * 256 ^ m + a)
 
 -- ---- which test decides
