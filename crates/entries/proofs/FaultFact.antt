@@ -1,9 +1,9 @@
 -- The faults of a table decide their plain statements: entry by entry, and over the whole table. Assumes nothing.
 use Prim.Native.Nat.{ℕ, zero, suc, _+_, _*_, _≤_, _<_}
-use mathlib.Core.Path.{_≡_, refl, sym, ap, _∙_, subst}
+use mathlib.Core.Path.{_≡_, refl, sym, ap, _∙_}
 use mathlib.Core.Bool.{Bool, true, false, cond, not, _&&_, _||_}
 use mathlib.Core.List.{List, [], _∷_}
-use mathlib.Core.Logic.{_⊎_, inl, inr, ⊎-elim, _↔_, _≢_}
+use mathlib.Core.Logic.{inl, inr, ⊎-elim, _↔_, _≢_}
 use native.Mathlib.Nat.{one-le-mul}
 use native.Mathlib.Omega.{arith}
 use borrow.Author.Tests.{lt-ltb, le-ltb, ltb-true, ltb-false, eq-eqb, ne-eqb, eqb-true, eqb-false, leb-true, leb-false, not-true}
@@ -11,7 +11,6 @@ use lib.Dec.{ltb, leb, eqb}
 use lib.ListN.{length}
 use Rattle.words.specs.Answers.{first}
 use Rattle.words.specs.Below.{anyBelow}
-use Rattle.words.specs.Facts.{NoneHolds}
 use Rattle.words.proofs.AnswerLaws.{first-zero, first-none, first-upto}
 use Rattle.words.proofs.TestLaws.{or-skip, or-take, or-neither, or-either, or-second, and-both, never-both, fails-else}
 use Rattle.words.proofs.Theorems.{exact-fact, any-fact, fault-fact}

@@ -1,17 +1,17 @@
 -- Discovery, stage by stage: where each stage refuses, and what is known where all pass. Assumes nothing.
-use Prim.Native.Nat.{ℕ, _+_, _*_, _^_, _≤_, _<_}
+use Prim.Native.Nat.{ℕ, _+_, _*_, _≤_, _<_}
 use mathlib.Core.Path.{_≡_, refl, sym, ap, _∙_, subst}
-use mathlib.Core.Bool.{Bool, true, false, not, _&&_}
+use mathlib.Core.Bool.{true, false, not, _&&_}
 use mathlib.Core.List.{List, [], _∷_}
 use mathlib.Core.Logic.{_⊎_, inl, inr, _≢_}
 use native.Mathlib.Omega.{arith}
 use borrow.Author.Tests.{lt-ltb, le-ltb}
 use lib.Dec.{ltb, eqb}
 use lib.ListN.{length}
-use Rattle.words.specs.Answers.{Answer, refused, gives, unless, numberIn, valueIn, first, earliest}
+use Rattle.words.specs.Answers.{Answer, refused, gives, unless, numberIn, valueIn, first}
 use Rattle.words.specs.Bytes.{numberAt}
 use Rattle.words.proofs.TestLaws.{as-must, not-as-must, and-first, and-second, and-holds}
-use Rattle.words.proofs.AnswerLaws.{unless-number, unless-gives, first-skip, first-take, first-end, earliest-stop, earliest-pass, earliest-last, stage-passes}
+use Rattle.words.proofs.AnswerLaws.{unless-number, unless-gives, first-skip, first-take, first-end, earliest-stop, earliest-last, stage-passes}
 use Rattle.vsec.specs.Facts.{Narrow}
 use Rattle.vsec.specs.Structure.{vsecAt}
 use Rattle.vsec.specs.Walk.{walkOf}

@@ -1,22 +1,18 @@
 -- An accepted lookup: the entry that was found, its bank, and the instance, all inside the BAR capture. Assumes nothing.
 use Prim.Native.Nat.{ℕ, zero, suc, _+_, _*_, _^_, _≤_, _<_}
-use mathlib.Core.Path.{_≡_, refl, sym, ap, _∙_}
-use mathlib.Core.Bool.{Bool, true, false, not, _&&_}
-use mathlib.Core.List.{List, [], _∷_}
+use mathlib.Core.Path.{_≡_, refl, ap, _∙_}
+use mathlib.Core.Bool.{true, false, not}
 use mathlib.Core.Logic.{_≢_}
 use native.Mathlib.Nat.{mul-le-mul, mul-assoc, add-mul, one-mul}
 use native.Mathlib.Omega.{arith}
-use borrow.Author.Tests.{leb-false, eqb-true, eqb-false, not-true}
-use lib.Dec.{leb, eqb}
+use borrow.Author.Tests.{leb-false, eqb-true, not-true}
+use lib.Dec.{eqb}
 use lib.ListN.{length}
-use Rattle.words.specs.Answers.{first}
-use Rattle.words.specs.Bytes.{numberAt}
 use Rattle.words.proofs.TestLaws.{and-both}
-use Rattle.words.proofs.AnswerLaws.{first-zero, earliest-zero, earliest-last}
+use Rattle.words.proofs.AnswerLaws.{first-zero, earliest-zero}
 use Rattle.words.proofs.BelowLaws.{is-least}
 use Rattle.entries.specs.Faults.{bankIn, emptyBank, faultsOf}
 use Rattle.entries.specs.Facts.{Filled}
-use Rattle.entries.proofs.FaultLaws.{Bounded}
 use Rattle.entries.proofs.FaultFact.{filled-exactly, table-faults}
 use Rattle.features.specs.Discovery.{Capture, barOf, tableOf, entriesOf, numberOf}
 use Rattle.features.specs.Places.{holds, indexIn, missing, bankFor, sizeFor, featureNumber, startFor, invalidAt, unsound, instanceNumber}

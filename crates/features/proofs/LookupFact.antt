@@ -1,33 +1,32 @@
 -- The lookups over a capture decide their plain statements; accepted instances lie inside, are not empty and share no byte. Assumes nothing.
-use Prim.Native.Nat.{ℕ, zero, suc, _+_, _*_, _-_, _/_, _%_, _^_, _≤_, _<_}
+use Prim.Native.Nat.{ℕ, _+_, _*_, _%_, _≤_, _<_}
 use mathlib.Core.Path.{_≡_, refl, sym, ap, _∙_, subst}
-use mathlib.Core.Bool.{Bool, true, false, not, _&&_, _||_}
+use mathlib.Core.Bool.{Bool, true, false, not, _||_}
 use mathlib.Core.List.{List, [], _∷_}
-use mathlib.Core.Logic.{_⊎_, inl, inr, ⊎-elim, _↔_, _≢_}
+use mathlib.Core.Logic.{inr, ⊎-elim, _↔_, _≢_}
 use native.Mathlib.Nat.{mul-le-mul, add-mul, one-mul, eq-or-lt-of-le}
 use native.Mathlib.Omega.{arith}
-use borrow.Author.Tests.{lt-leb, le-leb, leb-true, leb-false, eqb-true, eqb-false, eq-eqb, ne-eqb, le-ltb, ltb-false, not-false, not-true}
+use borrow.Author.Tests.{lt-leb, le-leb, leb-true, leb-false, eqb-true, eqb-false, eq-eqb, ne-eqb, le-ltb, not-true}
 use lib.Dec.{ltb, leb, eqb}
-use lib.ListN.{length, getD, take, drop, length-take, length-drop}
-use Rattle.words.specs.Answers.{Answer, refused, gives, numberIn, first, earliest}
+use lib.ListN.{length, take, drop, length-take, length-drop}
+use Rattle.words.specs.Answers.{Answer, refused, gives, numberIn, earliest}
 use Rattle.words.specs.Below.{least}
-use Rattle.words.specs.Bytes.{AllBytes, numberAt}
+use Rattle.words.specs.Bytes.{AllBytes}
 use Rattle.words.proofs.TestLaws.{as-must, or-skip, and-both, and-holds, fails-exactly, fails-else, never-both}
-use Rattle.words.proofs.AnswerLaws.{earliest-pass, earliest-stop, earliest-last, earliest-zero, earliest-upto, earliest-end, first-upto, first-zero, first-none, first-skip, first-take, first-end}
-use Rattle.words.proofs.BelowLaws.{is-least, least-once}
+use Rattle.words.proofs.AnswerLaws.{earliest-pass, earliest-stop, earliest-last, earliest-zero, earliest-upto, earliest-end, first-upto, first-zero, first-none, first-skip, first-end}
+use Rattle.words.proofs.BelowLaws.{is-least}
 use Rattle.words.proofs.NumberLaws.{number-ones, ones-number}
 use Rattle.words.proofs.Theorems.{exact-fact}
 use Rattle.entries.specs.Faults.{bankIn, emptyBank}
 use Rattle.entries.specs.Facts.{Filled, Shared}
-use Rattle.entries.specs.declared.faults.Bank.{Bank}
 use Rattle.vsec.specs.Walk.{walkOf}
 use Rattle.vsec.proofs.WalkFact.{Kept, walk-kept}
 use Rattle.entries.proofs.FaultFact.{filled-exactly, table-faults, faults-small}
 use Rattle.features.specs.Discovery.{Capture, beforeWalk, birNumber, tableNumber, barOf, tableOf, entriesOf, numberOf}
 use Rattle.features.specs.Places.{holds, indexIn, missing, bankFor, sizeFor, featureNumber, startFor, invalidAt, unsound, instanceNumber, instancePart, outside, registerNumber}
 use Rattle.features.specs.Facts.{Has, Ones, LookupFact, PlaceFact, ApartFact}
-use Rattle.features.proofs.PlaceLaws.{outside-room, outside-none, part-found, bank-for-bounded}
-use Rattle.features.proofs.InsideLaws.{no-fault, discovered, index-there, entry-filled, bank-id, feature-found, instance-there, size-some, instance-in-bank, instance-inside}
+use Rattle.features.proofs.PlaceLaws.{outside-room, outside-none, part-found}
+use Rattle.features.proofs.InsideLaws.{no-fault, discovered, index-there, entry-filled, bank-id, feature-found, size-some, instance-in-bank, instance-inside}
 
 -- ---- a stage after a lookup: its refusal is handed on, else the stage decides
 

@@ -1,14 +1,14 @@
 -- Features, instances and registers, stage by stage: where each stage refuses, and the values where all pass. Assumes nothing.
 use Prim.Native.Nat.{ℕ, _+_, _*_, _-_, _%_, _^_, _≤_, _<_}
-use mathlib.Core.Path.{_≡_, refl, sym, ap, ap₂, _∙_, subst}
-use mathlib.Core.Bool.{Bool, true, false, not, _||_}
+use mathlib.Core.Path.{_≡_, sym, ap, ap₂, _∙_}
+use mathlib.Core.Bool.{not}
 use mathlib.Core.List.{List, [], _∷_}
 use mathlib.Core.Logic.{_≢_}
 use native.Mathlib.Omega.{arith}
 use borrow.Author.Tests.{lt-leb, le-leb, lt-ltb, le-ltb, ltb-false, eq-eqb, ne-eqb, eqb-true, not-false}
-use lib.Dec.{ltb, leb, eqb}
-use lib.ListN.{length, take, drop}
-use Rattle.words.specs.Answers.{Answer, refused, gives, unless, first, earliest}
+use lib.Dec.{eqb}
+use lib.ListN.{take, drop}
+use Rattle.words.specs.Answers.{refused, gives, unless}
 use Rattle.words.specs.Bytes.{numberAt}
 use Rattle.words.proofs.TestLaws.{as-must, not-as-must, or-skip, or-take, or-second, or-neither}
 use Rattle.words.proofs.AnswerLaws.{first-skip, first-take, first-end, first-zero, stage-passes, stage-last, unless-number, unless-refused}

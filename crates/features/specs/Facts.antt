@@ -12,7 +12,7 @@ use Rattle.vsec.specs.Facts.{Ends}
 use Rattle.vsec.specs.Structure.{vsecAt}
 use Rattle.entries.specs.Faults.{bankIn, faultAt}
 use Rattle.entries.specs.Facts.{Filled, Shared, Clean}
-use Rattle.features.specs.Discovery.{Capture, named, birOf, barOf, tableOf, entriesOf, numberOf}
+use Rattle.features.specs.Discovery.{Capture, named, barOf, tableOf, entriesOf, numberOf}
 use Rattle.features.specs.Places.{bankFor, sizeFor, featureNumber, startFor, instanceNumber, instancePart, registerNumber}
 
 -- ---- discovery

@@ -13,7 +13,7 @@ use Prim.Native.Nat.{ℕ, _+_, _*_, _-_, _%_, _^_, _<_}
 use mathlib.Core.Bool.{Bool, cond, not, _&&_, _||_}
 use mathlib.Core.List.{List, [], _∷_}
 use lib.Dec.{ltb, leb, eqb}
-use lib.ListN.{length, take, drop}
+use lib.ListN.{take, drop}
 use Rattle.words.specs.Answers.{Answer, gives, unless, first, earliest}
 use Rattle.words.specs.Below.{least}
 use Rattle.words.specs.Bytes.{numberAt}

@@ -5,9 +5,9 @@ use mathlib.Core.Bool.{true}
 use mathlib.Core.List.{List}
 use native.Mathlib.Omega.{arith}
 use borrow.Author.Tests.{leb-true}
-use lib.ListN.{length, take, drop, length-drop}
+use lib.ListN.{length, drop, length-drop}
 use lib.Seq.{length-take-le}
-use Rattle.listing.specs.Layout.{firstOf, secondOf, middleOf, endOf, readable, configIn, lowIn, highIn}
+use Rattle.listing.specs.Layout.{firstOf, secondOf, middleOf, endOf, readable}
 use Rattle.listing.specs.Facts.{LayoutFact}
 use Rattle.listing.proofs.LayoutLaws.{tests, input-whole, config-there, low-there, high-there}
 

@@ -1,7 +1,7 @@
 -- The layout of an input: when it is readable, and what is known of its parts then. Assumes nothing.
-use Prim.Native.Nat.{ℕ, _+_, _-_, _≤_, _<_}
-use mathlib.Core.Path.{_≡_, refl, sym, ap, _∙_}
-use mathlib.Core.Bool.{Bool, true, false, cond, _&&_}
+use Prim.Native.Nat.{ℕ, _+_, _≤_, _<_}
+use mathlib.Core.Path.{_≡_, refl, sym, _∙_}
+use mathlib.Core.Bool.{Bool, true, false, cond}
 use mathlib.Core.List.{List, [], _∷_}
 use native.Mathlib.Omega.{arith}
 use borrow.Author.Tests.{le-leb, lt-leb, leb-true}
@@ -11,8 +11,7 @@ use Rattle.words.specs.Bytes.{numberAt}
 use Rattle.words.proofs.TestLaws.{and-first, and-second, and-holds, and-both}
 use Rattle.listing.specs.Layout.{firstOf, middleOf, secondOf, endOf, readable, layoutOf, configIn, lowIn, highIn}
 use Rattle.listing.specs.Told.{laid}
-use Rattle.listing.specs.declared.layout.Laid.{Laid}
-use Rattle.listing.specs.declared.layout.Laid.the-variants.{Out, Unreadable}
+use Rattle.listing.specs.declared.layout.Laid.the-variants.{Out}
 use Rattle.listing.specs.declared.layout.Layout.{Layout}
 
 module _ (s : List ℕ) where

@@ -1,15 +1,15 @@
 -- What the program says, case by case. Assumes nothing.
 use Prim.Native.Nat.{ℕ, _*_}
-use mathlib.Core.Path.{_≡_, refl, sym, ap, _∙_}
-use mathlib.Core.Bool.{Bool, true, false}
+use mathlib.Core.Path.{_≡_}
+use mathlib.Core.Bool.{true, false}
 use mathlib.Core.List.{List, [], _∷_}
 use Rattle.words.specs.Bytes.{numberAt}
 use Rattle.entries.specs.Faults.{bankIn, emptyBank}
 use Rattle.entries.specs.declared.faults.Bank.{Bank}
 use Rattle.features.specs.Discovery.{named, discoveryOf}
 use Rattle.features.specs.Valid.{validCountIn}
-use Rattle.listing.specs.Layout.{readable, middleOf, lowIn, highIn}
-use Rattle.listing.specs.Lines.{Said, unreadable, answers, captureIn, listingOf, barIn, lineOf}
+use Rattle.listing.specs.Layout.{readable, lowIn, highIn}
+use Rattle.listing.specs.Lines.{unreadable, answers, captureIn, listingOf, barIn, lineOf}
 
 module _ (s : List ℕ) where
   pub says-unreadable : readable s ≡ false → listingOf s ≡ unreadable

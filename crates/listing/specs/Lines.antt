@@ -6,10 +6,10 @@
 --   barIn s b        the BAR capture with the number b, empty where the input is unreadable
 --   lineOf bar t k   what the line of entry k of the table at t says, nothing for an empty entry
 -- Assumes nothing.
-use Prim.Native.Nat.{ℕ, _+_, _*_}
-use mathlib.Core.Bool.{Bool, true, false, cond}
+use Prim.Native.Nat.{ℕ, _*_}
+use mathlib.Core.Bool.{cond}
 use mathlib.Core.List.{List, [], _∷_}
-use Rattle.words.specs.Answers.{Answer, refused, gives}
+use Rattle.words.specs.Answers.{Answer}
 use Rattle.words.specs.Bytes.{numberAt}
 use Rattle.entries.specs.Faults.{bankIn, emptyBank}
 use Rattle.features.specs.Discovery.{Capture, captured, named, discoveryOf}

@@ -1,7 +1,7 @@
 -- The VSEC structure and its table of fields: from two words, from bytes, and back; its tests, read plainly. Assumes nothing.
-use Prim.Native.Nat.{ℕ, _+_, _*_, _/_, _%_, _^_, _≤_, _<_}
+use Prim.Native.Nat.{ℕ, _+_, _*_, _^_, _≤_, _<_}
 use mathlib.Core.Path.{_≡_, refl, sym, ap, _∙_}
-use mathlib.Core.Bool.{Bool, true, false}
+use mathlib.Core.Bool.{true, false}
 use mathlib.Core.List.{List, [], _∷_, _++_}
 use mathlib.Core.Logic.{_≢_}
 use native.Mathlib.Nat.{mul-div-cancel, zero-lt-suc}
@@ -11,15 +11,15 @@ use lib.ListN.{length}
 use Rattle.words.specs.Answers.{refused, gives, unless}
 use Rattle.words.specs.Bytes.{numberAt, stored}
 use Rattle.words.specs.Fields.{field}
-use Rattle.words.specs.Tables.{fields, withFields, Fit}
+use Rattle.words.specs.Tables.{fields, withFields, Fit, wider}
 use Rattle.words.proofs.Structures.{unless-refused, unless-accepted}
 use Rattle.words.proofs.TestLaws.{as-must, or-skip, or-neither}
 use Rattle.words.proofs.AnswerLaws.{first-skip, first-take, first-end, first-zero}
 use Rattle.words.proofs.NumberLaws.{number-past, number-split}
 use Rattle.words.proofs.StoreLaws.{stored-two}
 use Rattle.words.proofs.FieldLaws.{field-under, field-over}
-use Rattle.words.proofs.TableLaws.{fields-lt, side-written}
-use Rattle.vsec.specs.Structure.{vsecOf, vsecAt, widths, lowWidths, highWidths, values, lowValues, highValues, fixedWrong, tooWide, numbers, readNumber, readOf, writeNumber, written}
+use Rattle.words.proofs.TableLaws.{fields-lt, side-written, narrow-fit, fit-narrow}
+use Rattle.vsec.specs.Structure.{vsecOf, vsecAt, widths, lowWidths, highWidths, values, lowValues, highValues, fixedWrong, freeWidths, freeValues, tooWide, numbers, readNumber, readOf, writeNumber, written}
 use Rattle.vsec.specs.Facts.{Fixed, Narrow}
 use Rattle.vsec.specs.declared.structure.Vsec.{Vsec}
 
@@ -106,25 +106,22 @@ right-fixed v f =
 pub narrow-right : (v : Vsec) → tooWide v ≡ false → Narrow v
 unfolding tooWide
 narrow-right v e =
-    let a = or-neither _ _ e in
-    let b = or-neither _ _ (a .1) in
-    let c = or-neither _ _ (b .1) in
-    let d = or-neither _ _ (c .1) in
-    let f = or-neither _ _ (d .1) in
+    let a = or-neither (wider freeWidths (freeValues v)) _ e in
+    let f = narrow-fit freeWidths (freeValues v) refl (a .0) in
     record {
-      next = ltb-false _ _ (a .0);
-      reserved = ltb-false _ _ (b .0);
-      entries = ltb-false _ _ (c .0);
-      bir = ltb-false _ _ (d .0);
-      offset = ltb-false _ _ (f .0);
-      multiple = eqb-true _ _ (not-false _ (f .1));
+      next = omega (arith, f .0);
+      reserved = omega (arith, f .1 .0);
+      entries = omega (arith, f .1 .1 .0);
+      bir = omega (arith, f .1 .1 .1 .0);
+      offset = omega (arith, f .1 .1 .1 .1 .0);
+      multiple = eqb-true _ _ (not-false _ (a .1));
     }
 
 pub right-narrow : (v : Vsec) → Narrow v → tooWide v ≡ false
 unfolding tooWide
-right-narrow v f =
-    or-skip _ (le-ltb _ _ (f .next)) ∙ or-skip _ (le-ltb _ _ (f .reserved)) ∙ or-skip _ (le-ltb _ _ (f .entries))
-    ∙ or-skip _ (le-ltb _ _ (f .bir)) ∙ or-skip _ (le-ltb _ _ (f .offset)) ∙ as-must (f .multiple)
+right-narrow v n =
+    let fits : Fit freeWidths (freeValues v) = (omega (arith, n .next), (omega (arith, n .reserved), (omega (arith, n .entries), (omega (arith, n .bir), (omega (arith, n .offset), tt))))) in
+    or-skip _ (fit-narrow freeWidths (freeValues v) fits) ∙ as-must (n .multiple)
 
 -- numbers that are as they must be fit their fields
 pub low-fits : (v : Vsec) → Fixed v → Narrow v → Fit lowWidths (lowValues v)

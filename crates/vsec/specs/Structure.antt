@@ -10,7 +10,7 @@
 --   writeNumber s v  what writing it answers: 25, then 5, then 17, 0 where it is accepted
 --   written s v      what the part holds then: the 16 bytes, and the rest as it was; all as it was where it is refused
 -- Assumes nothing.
-use Prim.Native.Nat.{ℕ, _+_, _*_, _/_, _%_, _^_}
+use Prim.Native.Nat.{ℕ, _*_, _/_, _%_}
 use mathlib.Core.Bool.{Bool, not, _||_}
 use mathlib.Core.List.{List, [], _∷_, _++_}
 use lib.Dec.{ltb, eqb}
@@ -18,7 +18,7 @@ use lib.ListN.{length}
 use Rattle.words.specs.Answers.{Answer, gives, unless, first}
 use Rattle.words.specs.Bytes.{numberAt}
 use Rattle.words.specs.Fields.{field}
-use Rattle.words.specs.Tables.{writtenUnless}
+use Rattle.words.specs.Tables.{wider, writtenUnless}
 use Rattle.vsec.specs.declared.structure.Vsec.{Vsec}
 
 -- identifier, capability version, next, VSEC_ID, VSEC_REV, VSEC_LEN
@@ -65,10 +65,15 @@ fixedWrong v =
     not (eqb (v .identifier) 0x000B) || (not (eqb (v .version) 1) || (not (eqb (v .id) 0x42)
     || (not (eqb (v .revision) 1) || (not (eqb (v .size) 0x10) || not (eqb (v .words) 2)))))
 
+-- the numbers that are free, and the bits that each may take: next, reserved, NumEntries, tBIR, and the offset in bytes
+abbrev pub freeWidths : List ℕ
+freeWidths = 12 ∷ 16 ∷ 8 ∷ 3 ∷ 32 ∷ []
+
+abbrev pub freeValues : Vsec → List ℕ
+freeValues v = v .next ∷ v .reserved ∷ v .entries ∷ v .bir ∷ v .offset ∷ []
+
 unfoldable pub tooWide : Vsec → Bool
-tooWide v =
-    ltb 0xFFF (v .next) || (ltb 0xFFFF (v .reserved) || (ltb 255 (v .entries)
-    || (ltb 7 (v .bir) || (ltb 0xFFFFFFFF (v .offset) || not (eqb (v .offset % 8) 0)))))
+tooWide v = wider freeWidths (freeValues v) || not (eqb (v .offset % 8) 0)
 
 -- the numbers that a caller is given, the offset in bytes
 abbrev pub numbers : Vsec → List ℕ

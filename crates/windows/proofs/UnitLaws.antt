@@ -1,18 +1,11 @@
 -- The units' table of fields, read and written. Assumes nothing.
-use Prim.Native.Nat.{ℕ, zero, suc, _^_, _≤_, _<_}
+use Prim.Native.Nat.{ℕ}
 use mathlib.Core.Path.{_≡_, refl, ap, _∙_}
-use mathlib.Core.Bool.{true, false, or-false}
-use mathlib.Core.List.{List, [], _∷_}
-use native.Mathlib.Nat.{not-suc-le-zero, le-of-suc-le-suc}
-use native.Mathlib.Omega.{arith}
-use borrow.Author.Tests.{le-leb, lt-leb, leb-false}
-use lib.Dec.{leb}
-use lib.ListN.{length, getD}
-use lib.Pow.{pow-pos}
+use mathlib.Core.Bool.{true, false}
+use mathlib.Core.List.{[], _∷_}
 use Rattle.words.specs.Answers.{refused, gives, unless}
 use Rattle.words.specs.Tables.{fields, wider}
 use Rattle.words.proofs.AnswerLaws.{first-skip, first-take, first-end}
-use Rattle.words.proofs.TestLaws.{or-skip, or-take, or-second, or-neither}
 use Rattle.windows.specs.Units.{widths, unitsOf, values, writeNumber, registerOf, writtenOf}
 use Rattle.windows.specs.declared.units.Units.{Units}
 

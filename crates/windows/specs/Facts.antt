@@ -4,9 +4,7 @@
 use Prim.Native.Nat.{ℕ, _+_, _*_, _%_, _^_, _≤_, _<_}
 use mathlib.Core.Path.{_≡_}
 use mathlib.Core.Logic.{_⊎_, _↔_, _≢_}
-use mathlib.Core.Bool.{false}
-use mathlib.Core.List.{List, [], _∷_}
-use lib.ListN.{length}
+use mathlib.Core.List.{[], _∷_}
 use Rattle.words.specs.Answers.{refused, gives}
 use Rattle.words.specs.Fields.{field}
 use Rattle.words.specs.Tables.{Fit}

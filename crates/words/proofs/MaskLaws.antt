@@ -1,5 +1,5 @@
 -- Masks and counts: a mask's bits are the test's answers, and it has as many ones as numbers pass. Assumes nothing.
-use Prim.Native.Nat.{ℕ, zero, suc, _+_, _*_, _^_, _/_, _%_, _<_, _≤_}
+use Prim.Native.Nat.{ℕ, zero, suc, _+_, _*_, _^_, _%_, _<_, _≤_}
 use mathlib.Core.Bool.{Bool, true, false}
 use mathlib.Core.Logic.{⊎-elim}
 use mathlib.Core.Path.{_≡_, refl, sym, ap, ap₂, _∙_, subst}
@@ -9,7 +9,7 @@ use native.Mathlib.Omega.{arith}
 use lib.Dec.{lit<}
 use lib.Pow.{shl-exact, high, low}
 use lib.Bits.{bitOr, or-shifted-r}
-use lib.Count.{ones, onesIn, ones-cat}
+use lib.Count.{ones, ones-cat}
 use Rattle.words.specs.Fields.{field, bit}
 use Rattle.words.specs.Masks.{one, howMany, maskOf, onwards}
 use Rattle.words.proofs.FieldLaws.{field-mod}

@@ -8,7 +8,7 @@ use lib.Arith.{digits-lt, digits-div, digits-mod}
 use lib.Dec.{leb}
 use lib.ListN.{length, getD, take, drop, length-take, List·getD-eq-default}
 use lib.Seq.{getD-take, getD-drop}
-use native.Mathlib.Nat.{not-suc-le-zero, one-le-pow, mod-lt, pow-suc, pow-succ', zero-add, add-zero, suc-add, add-suc, add-assoc, add-mul, mul-assoc, mul-one, div-one, div-div-eq-div-mul, zero-lt-suc, lt-of-lt-of-le, pow-le-pow-right}
+use native.Mathlib.Nat.{not-suc-le-zero, one-le-pow, pow-suc, pow-succ', zero-add, add-zero, suc-add, add-suc, add-assoc, add-mul, mul-assoc, mul-one, div-one, div-div-eq-div-mul, zero-lt-suc, lt-of-lt-of-le, pow-le-pow-right}
 use native.Mathlib.Omega.{arith}
 use Rattle.words.specs.Bytes.{AllBytes, numberAt}
 

@@ -1,6 +1,6 @@
 -- The field fact, for a table of fields: a structure's round trips, for any list of widths, and two words side by side. Assumes nothing.
 use Prim.Native.Nat.{ℕ, zero, suc, _+_, _*_, _/_, _%_, _^_, _≤_, _<_}
-use mathlib.Core.Path.{_≡_, refl, sym, ap, ap₂, _∙_, subst}
+use mathlib.Core.Path.{_≡_, refl, sym, ap, ap₂, _∙_}
 use mathlib.Core.Bool.{true, false, or-false}
 use mathlib.Core.List.{List, [], _∷_, _++_}
 use native.Mathlib.Nat.{not-suc-le-zero, le-of-suc-le-suc, add-zero, zero-add, add-assoc, add-comm, add-mul, mul-assoc, mul-suc, pow-suc, mod-eq-of-lt, mod-one, le-dest, mul-add-div-right, mul-add-mod-self-right}

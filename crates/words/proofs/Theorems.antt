@@ -1,18 +1,17 @@
 -- Each theorem of Facts.antt, under its name. Assumes nothing.
 use Prim.Native.Nat.{ℕ, _+_, _*_, _^_, _≤_, _<_}
-use mathlib.Core.Path.{_≡_, refl, sym, ap, _∙_}
-use mathlib.Core.Logic.{_⊎_, inl, inr, _≢_}
-use mathlib.Core.Bool.{Bool, true, false}
-use mathlib.Core.List.{List, [], _∷_, _++_}
+use mathlib.Core.Path.{_≡_, sym, ap, _∙_}
+use mathlib.Core.Logic.{_⊎_, inl, inr}
+use mathlib.Core.Bool.{Bool}
+use mathlib.Core.List.{List, _∷_, _++_}
 use native.Mathlib.Nat.{add-comm, mul-comm}
 use native.Mathlib.Omega.{arith}
-use lib.Dec.{T}
 use Rattle.words.specs.Bytes.{numberAt}
 use Rattle.words.specs.Fields.{withField, bit}
 use Rattle.words.specs.Tables.{withFields, total}
 use Rattle.words.specs.Answers.{unless, gives, first}
-use Rattle.words.specs.Below.{firstBelow, least}
-use Rattle.words.specs.Facts.{NumberFact, StoreFact, FieldFact, BesideFact, SameBitsFact, RoundTrips, WiderFact, SideBySide, StoredTwoFact, ExactFact, FirstFact, Decides, UnlessFact, EarliestFact, AnyFact, FaultFact, IsLeast, LeastFact, MaskFact}
+use Rattle.words.specs.Below.{least}
+use Rattle.words.specs.Facts.{NumberFact, StoreFact, FieldFact, BesideFact, SameBitsFact, RoundTrips, WiderFact, SideBySide, StoredTwoFact, ExactFact, FirstFact, UnlessFact, EarliestFact, AnyFact, FaultFact, IsLeast, LeastFact, MaskFact}
 use Rattle.words.proofs.NumberLaws.{number-byte, number-lt, number-past, number-split}
 use Rattle.words.proofs.StoreLaws.{stored-byte, stored-other, length-stored, stored-short, number-stored, stored-number, stored-stored, stored-two}
 use Rattle.words.proofs.FieldLaws.{field-with, field-with-inside, field-with-below, field-with-above, field-lt, with-field, with-with, with-lt, same-bits}

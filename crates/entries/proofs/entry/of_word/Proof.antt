@@ -24,7 +24,15 @@ field-requires-6 c κs = search needs
 
 returns : tie.Need-returns
 unfolding entryOf
-returns c = cc
+returns c =
+    rw (
+      c .field6 .ensures,
+      c .before .field5 .ensures,
+      c .before .before .field4 .ensures,
+      c .before .before .before .field3 .ensures,
+      c .before .before .before .before .field2 .ensures,
+      c .before .before .before .before .before .field .ensures,
+    )
 
 pub of-word-spec : {M : Type 1} → statement M
 of-word-spec =

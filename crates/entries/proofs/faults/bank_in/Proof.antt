@@ -1,7 +1,6 @@
 -- `entries::faults::bank_in` meets its contract: an entry that is read has small numbers. Assumes nothing.
 use mathlib.Core.Path.{sym, subst}
 use Rattle.entries.specs.Faults.{Small, bankIn}
-use Rattle.entries.specs.declared.entry.Entry.{Entry}
 use Rattle.entries.proofs.FaultLaws.{entry-small}
 use borrow.Author.Needs.{needs}
 use Rattle.entries.proofs.faults.bank_in.Statement.{statement}
@@ -21,7 +20,7 @@ bank-of-requires c κs = subst Small (sym (c .entry-at .ensures)) (entry-small _
 
 returns : tie.Need-returns
 unfolding bankIn
-returns c = cc
+returns c = rw (c .bank-of .ensures, c .before .entry-at .ensures)
 
 pub bank-in-spec : {M : Type 1} → statement M
 bank-in-spec = tie.close (tie.spec mul-at add-at entry-at-requires bank-of-requires returns)

@@ -1,7 +1,7 @@
 -- `entries::faults::earlier` meets its contract. The invariant: no earlier entry so far has the identifier, and `found` is 11 exactly if
 -- some bank so far shares a byte. The measure is what is left of k. Assumes nothing.
-use Prim.Native.Nat.{ℕ, _+_, _-_, _≤_}
-use mathlib.Core.Path.{_≡_, refl, sym, ap, _∙_}
+use Prim.Native.Nat.{_-_, _≤_}
+use mathlib.Core.Path.{_≡_, sym, ap, _∙_}
 use mathlib.Core.Bool.{false}
 use mathlib.Core.Logic.{⊎-elim, _≢_}
 use native.Mathlib.Omega.{arith}

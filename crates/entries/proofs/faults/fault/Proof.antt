@@ -1,11 +1,8 @@
 -- `entries::faults::fault` meets its contract: at each return the tests on the way decide. Assumes nothing.
-use mathlib.Core.Path.{_≡_, sym, ap, _∙_}
+use mathlib.Core.Path.{_≡_, sym, _∙_}
 use mathlib.Core.Bool.{false}
 use mathlib.Core.Logic.{_≢_}
-use lib.ListN.{length}
-use Prim.Native.Nat.{_≤_}
 use Rattle.entries.specs.Faults.{emptyBank, earlierOf}
-use Rattle.entries.specs.declared.faults.Bank.{Bank}
 use Rattle.entries.proofs.FaultLaws.{fault-empty, fault-eight, fault-nine, fault-ten, fault-eleven, fault-rest}
 use borrow.Author.Needs.{needs}
 use Rattle.entries.proofs.faults.fault.Statement.{statement}

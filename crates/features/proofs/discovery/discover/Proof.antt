@@ -1,7 +1,6 @@
 -- `features::discovery::discover` meets its contract: each stage refuses, or hands on to the next. Assumes nothing.
-use mathlib.Core.Path.{_≡_, sym, ap, _∙_, subst}
-use mathlib.Core.List.{List, [], _∷_}
-use Rattle.words.specs.Answers.{Answer, refused, gives, numberIn}
+use mathlib.Core.Path.{sym, ap, _∙_, subst}
+use Rattle.words.specs.Answers.{refused, numberIn}
 use Rattle.vsec.specs.Facts.{Narrow}
 use Rattle.vsec.specs.Told.{walked}
 use Rattle.vsec.specs.declared.structure.Vsec.{Vsec}

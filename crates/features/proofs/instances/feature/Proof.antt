@@ -1,6 +1,5 @@
 -- `features::instances::feature` meets its contract: discovery's refusal, or the feature of the table found. Assumes nothing.
-use mathlib.Core.Path.{_≡_, sym, ap, _∙_}
-use mathlib.Core.List.{List, [], _∷_}
+use mathlib.Core.Path.{sym, ap, _∙_}
 use native.Mathlib.Omega.{arith}
 use Rattle.words.proofs.AnswerLaws.{stage-stops}
 use Rattle.features.specs.Discovery.{Capture, captured, discoveryOf, numberOf}

@@ -1,12 +1,12 @@
 -- `features::instances::feature_in` meets its contract: 12, or the bank of the entry that was found. Assumes nothing.
 use Prim.Native.Nat.{ℕ, _*_, _≤_, _<_}
-use mathlib.Core.Path.{_≡_, refl, sym, ap, _∙_, subst}
-use mathlib.Core.List.{List, [], _∷_}
+use mathlib.Core.Path.{_≡_, sym, ap, _∙_, subst}
+use mathlib.Core.List.{[], _∷_}
 use native.Mathlib.Omega.{arith}
 use Rattle.words.specs.Answers.{gives}
 use Rattle.entries.specs.Faults.{bankIn}
 use Rattle.entries.specs.declared.faults.Bank.{Bank}
-use Rattle.entries.proofs.FaultLaws.{Bounded, bank-bounded}
+use Rattle.entries.proofs.FaultLaws.{bank-bounded}
 use Rattle.features.specs.Places.{indexIn}
 use Rattle.features.proofs.PlaceLaws.{feature-missing, feature-there}
 use borrow.Author.Needs.{needs}

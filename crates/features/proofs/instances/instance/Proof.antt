@@ -5,8 +5,8 @@ use mathlib.Core.Path.{_≡_, sym, ap, ap₂, _∙_}
 use mathlib.Core.List.{List}
 use native.Mathlib.Omega.{arith}
 use lib.ListN.{length, take, drop}
-use Rattle.features.specs.Discovery.{Capture, captured, barOf}
-use Rattle.features.specs.Places.{startFor, sizeFor, instancePart}
+use Rattle.features.specs.Discovery.{Capture, captured}
+use Rattle.features.specs.Places.{sizeFor}
 use Rattle.features.specs.Told.{told}
 use Rattle.features.proofs.PlaceLaws.{InstancePlace, instance-at, bar-named, part-refused, part-found}
 use Rattle.features.proofs.InsideLaws.{instance-inside}

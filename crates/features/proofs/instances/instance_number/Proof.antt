@@ -1,5 +1,5 @@
 -- `features::instances::instance_number` meets its contract: the number of the lookup's answer. Assumes nothing.
-use mathlib.Core.Path.{_≡_, ap, _∙_}
+use mathlib.Core.Path.{ap, _∙_}
 use Rattle.words.specs.Answers.{numberIn}
 use Rattle.words.proofs.AnswerLaws.{unless-number-in}
 use Rattle.features.specs.Places.{instanceOf, instanceNumber}

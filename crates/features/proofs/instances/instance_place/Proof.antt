@@ -1,5 +1,5 @@
 -- `features::instances::instance_place` meets its contract: the feature's refusal, or the instance of its bank. Assumes nothing.
-use mathlib.Core.Path.{_≡_, sym, ap, _∙_}
+use mathlib.Core.Path.{sym, ap, _∙_}
 use Rattle.words.proofs.AnswerLaws.{stage-stops}
 use Rattle.features.specs.Discovery.{Capture, captured}
 use Rattle.features.specs.Places.{featureOf, featureNumber, instanceOf, instanceNumber}

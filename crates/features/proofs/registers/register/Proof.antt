@@ -1,6 +1,6 @@
 -- `features::registers::register` meets its contract: the refusal of its place, or the eight bytes there. Assumes nothing.
-use Prim.Native.Nat.{ℕ, _+_}
-use mathlib.Core.Path.{_≡_, sym, ap, ap₂, _∙_}
+use Prim.Native.Nat.{ℕ}
+use mathlib.Core.Path.{sym, ap, ap₂, _∙_}
 use mathlib.Core.List.{List, [], _∷_}
 use Rattle.words.specs.Answers.{refused, gives, numberIn}
 use Rattle.words.specs.Bytes.{numberAt}

@@ -5,7 +5,7 @@ use mathlib.Core.List.{[], _∷_}
 use native.Mathlib.Omega.{arith}
 use Rattle.words.specs.Answers.{refused, gives}
 use Rattle.words.proofs.AnswerLaws.{stage-stops}
-use Rattle.features.specs.Discovery.{Capture, captured, birOf}
+use Rattle.features.specs.Discovery.{Capture, captured}
 use Rattle.features.specs.Places.{instanceOf, instanceNumber, outside, registerPlaceOf, registerNumber, sizeFor}
 use Rattle.features.specs.Told.{told}
 use Rattle.features.proofs.PlaceLaws.{InstancePlace, instance-at, bank-for-bounded, register-refused, register-inside, outside-room}

@@ -1,10 +1,9 @@
 -- `features::valid::count_valid` meets its contract. The invariant: the total is the count of the instances before `first`. The measure is
 -- the instances left. Assumes nothing.
-use Prim.Native.Nat.{ℕ, _+_, _-_, _≤_, _<_}
-use mathlib.Core.Path.{_≡_, refl, sym, ap, _∙_}
+use Prim.Native.Nat.{_+_, _-_, _≤_, _<_}
+use mathlib.Core.Path.{_≡_, refl, ap, _∙_}
 use mathlib.Core.Logic.{⊎-elim}
 use native.Mathlib.Omega.{arith}
-use borrow.Author.Needs.{needs}
 use lib.Count.{ones}
 use Rattle.words.specs.Masks.{howMany}
 use Rattle.words.proofs.MaskLaws.{many-le, count-more}

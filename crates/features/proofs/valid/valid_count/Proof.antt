@@ -1,6 +1,6 @@
 -- `features::valid::valid_count` meets its contract: the feature's refusal, or the count over its bank. Assumes nothing.
 use Prim.Native.Nat.{ℕ}
-use mathlib.Core.Path.{_≡_, sym, ap, ap₂, _∙_}
+use mathlib.Core.Path.{sym, ap, ap₂, _∙_}
 use mathlib.Core.List.{List, [], _∷_}
 use Rattle.words.specs.Answers.{refused, gives, numberIn}
 use Rattle.features.specs.Discovery.{Capture, captured, barOf}

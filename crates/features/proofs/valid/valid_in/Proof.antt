@@ -1,6 +1,6 @@
 -- `features::valid::valid_in` meets its contract: the bank of an entry leaves room. Assumes nothing.
 use Prim.Native.Nat.{_*_}
-use mathlib.Core.Path.{_≡_, ap, _∙_, sym, subst}
+use mathlib.Core.Path.{ap, _∙_, sym, subst}
 use native.Mathlib.Omega.{arith}
 use Rattle.entries.specs.declared.faults.Bank.{Bank}
 use Rattle.entries.proofs.FaultLaws.{Bounded, bank-bounded}

@@ -1,12 +1,9 @@
 -- `listing::layout::config_in` meets its contract: the empty part, or the part that the layout says, which is there. Assumes nothing.
-use Prim.Native.Nat.{ℕ, _+_, _-_, _≤_}
-use mathlib.Core.Path.{_≡_, sym, ap, ap₂, _∙_}
-use mathlib.Core.List.{List}
+use mathlib.Core.Path.{sym, ap, _∙_}
 use native.Mathlib.Omega.{arith}
-use lib.ListN.{length, take, drop}
-use Rattle.listing.specs.Layout.{firstOf, secondOf, middleOf, endOf}
+use Rattle.listing.specs.Layout.{configIn}
 use Rattle.listing.specs.Told.{laid}
-use Rattle.listing.proofs.LayoutLaws.{LaidOut, not-laid, laid-out, config-there, config-none}
+use Rattle.listing.proofs.LayoutLaws.{LaidOut, not-laid, laid-out, config-none}
 use borrow.Author.Needs.{needs}
 use Rattle.listing.proofs.layout.config_in.Statement.{statement}
 use Rattle.listing.proofs.layout.config_in.Tie as tie
@@ -49,7 +46,8 @@ part-result-end-2 : tie.Need-part-result-end-2
 part-result-end-2 c = omega (arith, found c .whole)
 
 returns-2 : tie.Need-returns-2
-returns-2 c = let k = c .before in config-there (k .before .before .before .before .args .input .now) (found k .reads)
+unfolding configIn
+returns-2 c = rw (found (c .before) .reads)
 
 pub config-in-spec : {M : Type 1} → statement M
 config-in-spec =

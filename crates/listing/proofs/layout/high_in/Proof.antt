@@ -1,10 +1,9 @@
 -- `listing::layout::high_in` meets its contract: the empty part, or the part that the layout says, which is there. Assumes nothing.
-use Prim.Native.Nat.{ℕ, _+_, _-_, _≤_}
+use Prim.Native.Nat.{ℕ, _+_, _-_}
 use mathlib.Core.Path.{_≡_, sym, ap, ap₂, _∙_}
-use mathlib.Core.List.{List}
 use native.Mathlib.Omega.{arith}
-use lib.ListN.{length, take, drop}
-use Rattle.listing.specs.Layout.{firstOf, secondOf, middleOf, endOf}
+use lib.ListN.{take, drop}
+use Rattle.listing.specs.Layout.{secondOf}
 use Rattle.listing.specs.Told.{laid}
 use Rattle.listing.proofs.LayoutLaws.{LaidOut, not-laid, laid-out, high-there, high-none}
 use borrow.Author.Needs.{needs}

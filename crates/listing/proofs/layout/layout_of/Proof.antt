@@ -1,12 +1,11 @@
 -- `listing::layout::layout_of` meets its contract: at each return the tests on the way decide whether the input is readable.
 -- Assumes nothing.
-use Prim.Native.Nat.{ℕ, _+_, _≤_, _<_}
-use mathlib.Core.Path.{_≡_, sym, ap, ap₂, _∙_, subst}
-use mathlib.Core.List.{List, [], _∷_}
+use Prim.Native.Nat.{ℕ, _+_}
+use mathlib.Core.Path.{_≡_, sym, ap, ap₂, _∙_}
+use mathlib.Core.List.{[], _∷_}
 use native.Mathlib.Omega.{arith}
-use lib.ListN.{length}
 use Rattle.words.specs.Bytes.{numberAt}
-use Rattle.listing.specs.Layout.{firstOf, secondOf, middleOf, endOf}
+use Rattle.listing.specs.Layout.{firstOf, secondOf}
 use Rattle.listing.proofs.LayoutLaws.{first-long, second-long, input-short, input-whole, layout-none, layout-there}
 use borrow.Author.Needs.{needs}
 use Rattle.listing.proofs.layout.layout_of.Statement.{statement}

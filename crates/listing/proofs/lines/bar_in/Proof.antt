@@ -1,6 +1,6 @@
 -- `listing::lines::bar_in` meets its contract: the empty part, or the BAR capture with the number. Assumes nothing.
 use Prim.Native.Nat.{ℕ}
-use mathlib.Core.Path.{_≡_, sym, ap, ap₂, _∙_}
+use mathlib.Core.Path.{sym, ap, ap₂, _∙_}
 use mathlib.Core.List.{List}
 use Rattle.words.specs.Bytes.{numberAt}
 use Rattle.features.specs.Discovery.{named}

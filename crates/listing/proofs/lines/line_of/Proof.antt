@@ -1,7 +1,7 @@
 -- `listing::lines::line_of` meets its contract: nothing for an empty entry, else its numbers. Assumes nothing.
 use Prim.Native.Nat.{ℕ, _*_}
-use mathlib.Core.Path.{_≡_, sym, ap, _∙_, subst}
-use mathlib.Core.List.{List, [], _∷_}
+use mathlib.Core.Path.{sym, ap, _∙_, subst}
+use mathlib.Core.List.{[], _∷_}
 use native.Mathlib.Omega.{arith}
 use Rattle.entries.specs.declared.faults.Bank.{Bank}
 use Rattle.entries.proofs.FaultLaws.{Bounded, bank-bounded}

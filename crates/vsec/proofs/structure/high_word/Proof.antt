@@ -21,7 +21,14 @@ with-field-requires-5 c κs = search needs
 
 returns : tie.Need-returns
 unfolding withFields
-returns c = cc
+returns c =
+    rw (
+      c .with-field5 .ensures,
+      c .before .before .with-field4 .ensures,
+      c .before .before .before .with-field3 .ensures,
+      c .before .before .before .before .with-field2 .ensures,
+      c .before .before .before .before .before .with-field .ensures,
+    )
 
 pub high-word-spec : {M : Type 1} → statement M
 high-word-spec =

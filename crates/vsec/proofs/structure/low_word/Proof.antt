@@ -24,7 +24,15 @@ with-field-requires-6 c κs = search needs
 
 returns : tie.Need-returns
 unfolding withFields
-returns c = cc
+returns c =
+    rw (
+      c .with-field6 .ensures,
+      c .before .with-field5 .ensures,
+      c .before .before .with-field4 .ensures,
+      c .before .before .before .with-field3 .ensures,
+      c .before .before .before .before .with-field2 .ensures,
+      c .before .before .before .before .before .with-field .ensures,
+    )
 
 pub low-word-spec : {M : Type 1} → statement M
 low-word-spec =

@@ -43,7 +43,22 @@ mul-t14 : tie.Need-mul-t14
 mul-t14 c = omega (arith, field-lt 35 29 (c .before .before .before .before .before .before .before .before .before .before .before .args .high))
 
 returns : tie.Need-returns
-returns c = let e = c .before .before .before .before .before .before .before .before .before .before .before in let f = of-two-words (e .args .low) (e .args .high) (e .fits .low .fits) in cc
+returns c =
+    let e = c .before .before .before .before .before .before .before .before .before .before .before in
+    rw (
+      of-two-words (e .args .low) (e .args .high) (e .fits .low .fits),
+      c .field11 .ensures,
+      c .before .field10 .ensures,
+      c .before .before .field9 .ensures,
+      c .before .before .before .field8 .ensures,
+      c .before .before .before .before .field7 .ensures,
+      c .before .before .before .before .before .field6 .ensures,
+      c .before .before .before .before .before .before .field5 .ensures,
+      c .before .before .before .before .before .before .before .field4 .ensures,
+      c .before .before .before .before .before .before .before .before .field3 .ensures,
+      c .before .before .before .before .before .before .before .before .before .field2 .ensures,
+      c .before .before .before .before .before .before .before .before .before .before .field .ensures,
+    )
 
 pub of-words-spec : {M : Type 1} → statement M
 of-words-spec =

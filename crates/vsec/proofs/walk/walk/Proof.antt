@@ -1,10 +1,9 @@
 -- `vsec::walk::walk` meets its contract. The invariant: the walk from here, with the headers left, gives the answer. The measure is the
 -- headers left. Assumes nothing.
 use borrow.Author.Needs.{needs}
-use Prim.Native.Nat.{ℕ, _<_, _-_}
+use Prim.Native.Nat.{_<_}
 use mathlib.Core.Path.{_≡_, sym, subst, _∙_, ap}
 use lib.Dec.{lit<}
-use native.Mathlib.Omega.{arith}
 use Rattle.vsec.specs.Walk.{Header, walkFrom, walkOf, Onward}
 use Rattle.vsec.specs.Told.{meant}
 use Rattle.vsec.proofs.WalkLaws.{walk-zeros, walk-ones, walk-begins, walk-onward, walk-out}

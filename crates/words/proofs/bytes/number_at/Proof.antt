@@ -1,5 +1,5 @@
 -- `words::bytes::number_at` meets its contract. The invariant: x is the number of the bytes from place at + i on. The measure is i. Assumes nothing.
-use mathlib.Core.Path.{_≡_, refl, sym, ap, ap₂, _∙_}
+use mathlib.Core.Path.{_≡_, sym, ap₂, _∙_}
 use Prim.Native.Nat.{ℕ, _+_, _-_, _*_, _^_, _≤_, _<_}
 use native.Mathlib.Nat.{add-zero, sub-zero, sub-self}
 use native.Mathlib.Omega.{arith}
