@@ -1,7 +1,8 @@
 -- An accepted lookup: the entry that was found, its bank, and the instance, all inside the BAR capture. Assumes nothing.
 use Prim.Native.Nat.{ℕ, zero, suc, _+_, _*_, _^_, _≤_, _<_}
-use mathlib.Core.Path.{_≡_, refl, ap, _∙_}
+use mathlib.Core.Path.{_≡_, refl, ap, ap₂, _∙_}
 use mathlib.Core.Bool.{true, false, not}
+use mathlib.Core.List.{List}
 use mathlib.Core.Logic.{_≢_}
 use native.Mathlib.Nat.{mul-le-mul, mul-assoc, add-mul, one-mul}
 use native.Mathlib.Omega.{arith}
@@ -15,8 +16,9 @@ use Rattle.entries.specs.Faults.{bankIn, emptyBank, faultsOf}
 use Rattle.entries.specs.Facts.{Filled}
 use Rattle.entries.proofs.FaultFact.{filled-exactly, table-faults}
 use Rattle.features.specs.Discovery.{Capture, barOf, tableOf, entriesOf, numberOf}
-use Rattle.features.specs.Places.{holds, indexIn, missing, bankFor, sizeFor, featureNumber, startFor, invalidAt, unsound, instanceNumber}
-use Rattle.features.proofs.PlaceLaws.{bank-for-bounded}
+use Rattle.features.specs.Places.{holds, indexIn, missing, bankFor, sizeFor, featureNumber, startFor, invalidAt, piece, partOf, unsound, instanceNumber, instancePart}
+use Rattle.features.specs.declared.places.Place.{Place}
+use Rattle.features.proofs.PlaceLaws.{bank-for-bounded, InstancePlace, bar-named, piece-there, part-found}
 
 -- ---- discovery
 
@@ -106,3 +108,11 @@ module _ (c : Capture) (id n : ℕ) (z : instanceNumber c id n ≡ 0) where
       let b = bank-for-bounded c id in
       let few : n * sizeFor c id ≤ 255 * 262140 = mul-le-mul {n₁ = n} {m₁ = sizeFor c id} {n₂ = 255} {m₂ = 262140} (omega (arith, instance-there, b .instances)) (omega (arith, b .words)) in
       omega (arith, few, b .start)
+
+-- the bytes at the place that is found are the instance's
+pub part-at : (c : Capture) (id n : ℕ) {p : Place} → InstancePlace c id n p → partOf p (c .lo) (c .low) (c .high) ≡ instancePart c id n
+part-at c id n {p} q =
+    ap₂ (λ (s : List ℕ) (a : ℕ). piece s a (p .size)) (bar-named c (q .bir)) (q .start)
+    ∙ ap (piece (barOf c) (startFor c id n)) (q .size)
+    ∙ piece-there (barOf c) (startFor c id n) (sizeFor c id) (instance-inside c id n (q .zero))
+    ∙ part-found c id n (q .zero)

@@ -7,7 +7,7 @@ use mathlib.Core.Logic.{_≢_}
 use native.Mathlib.Omega.{arith}
 use borrow.Author.Tests.{lt-leb, le-leb, lt-ltb, le-ltb, ltb-false, eq-eqb, ne-eqb, eqb-true, not-false}
 use lib.Dec.{eqb}
-use lib.ListN.{take, drop}
+use lib.ListN.{length, take, drop}
 use Rattle.words.specs.Answers.{refused, gives, unless}
 use Rattle.words.specs.Bytes.{numberAt}
 use Rattle.words.proofs.TestLaws.{as-must, not-as-must, or-skip, or-take, or-second, or-neither}
@@ -15,7 +15,7 @@ use Rattle.words.proofs.AnswerLaws.{first-skip, first-take, first-end, first-ze
 use Rattle.entries.specs.Faults.{bankIn}
 use Rattle.entries.proofs.FaultLaws.{Bounded, bank-bounded}
 use Rattle.features.specs.Discovery.{Capture, birOf, barOf, tableOf, entriesOf, numberOf, named, discoveryOf}
-use Rattle.features.specs.Places.{indexIn, missing, featureIn, bankFor, sizeFor, featureNumber, featureOf, startFor, invalidAt, unsound, instanceIn, Roomy, instanceNumber, instanceOf, instancePart, outside, registerNumber, registerPlaceOf, registerOf}
+use Rattle.features.specs.Places.{indexIn, missing, featureIn, bankFor, sizeFor, featureNumber, featureOf, startFor, invalidAt, piece, partOf, unsound, instanceIn, Roomy, instanceNumber, instanceOf, instancePart, outside, registerNumber, registerPlaceOf, registerOf}
 use Rattle.features.specs.Valid.{validCountIn, countOf}
 use Rattle.features.specs.Told.{placed}
 use Rattle.features.specs.declared.places.Place.{Place}
@@ -53,6 +53,17 @@ module _ (s : List ℕ) (p : Place) (n : ℕ) where
     pub instance-valid : numberAt s (p .start + n * p .size) 8 ≢ 2 ^ 64 - 1 → instanceIn s p n ≡ gives (p .bir ∷ (p .start + n * p .size) ∷ p .size ∷ 1 ∷ [])
     unfolding instanceIn unsound invalidAt instance-values
     instance-valid h = ap (λ (k : ℕ). unless k (gives instance-values)) (first-skip _ _ (lt-leb _ _ there) ∙ first-skip _ _ (ne-eqb _ _ h) ∙ first-end)
+
+-- ---- a piece of a list
+
+module _ (s : List ℕ) (at n : ℕ) where
+  pub piece-past : length s < at + n → piece s at n ≡ []
+  unfolding piece
+  piece-past h = rw (lt-leb _ _ h)
+
+  pub piece-there : at + n ≤ length s → piece s at n ≡ take n (drop at s)
+  unfolding piece
+  piece-there h = rw (le-leb _ _ h)
 
 -- ---- an offset into an instance
 

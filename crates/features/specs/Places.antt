@@ -4,6 +4,7 @@
 --   bankFor c id         the bank of a feature;  sizeFor  the bytes of one of its instances
 --   featureNumber c id   discovery's, then 12;   featureOf   or the bank: BAR number, start, bytes of an instance, instances
 --   startFor c id n      where instance n starts: table offset + CapOffset × 1,024 + n × EntrySize × 4
+--   piece, partOf        the bytes of one piece at a place, none where they pass the end
 --   invalidAt s k        the 8 bytes at a place are all ones
 --   instanceNumber       the feature's, then 12, 13;   instanceOf   or the place of the instance
 --   instancePart         the instance's bytes, none where it is refused
@@ -13,14 +14,14 @@ use Prim.Native.Nat.{ℕ, _+_, _*_, _-_, _%_, _^_, _<_}
 use mathlib.Core.Bool.{Bool, cond, not, _&&_, _||_}
 use mathlib.Core.List.{List, [], _∷_}
 use lib.Dec.{ltb, leb, eqb}
-use lib.ListN.{take, drop}
+use lib.ListN.{length, take, drop}
 use Rattle.words.specs.Answers.{Answer, gives, unless, first, earliest}
 use Rattle.words.specs.Below.{least}
 use Rattle.words.specs.Bytes.{numberAt}
 use Rattle.entries.specs.Faults.{bankIn, emptyBank}
 use Rattle.entries.specs.declared.faults.Bank.{Bank}
 use Rattle.features.specs.declared.places.Place.{Place}
-use Rattle.features.specs.Discovery.{Capture, birOf, barOf, tableOf, entriesOf, numberOf}
+use Rattle.features.specs.Discovery.{Capture, named, birOf, barOf, tableOf, entriesOf, numberOf}
 
 abbrev pub holds : List ℕ → ℕ → ℕ → ℕ → Bool
 holds s t id k = not (emptyBank (bankIn s t k)) && eqb (bankIn s t k .id) id
@@ -60,6 +61,13 @@ startFor c id n = bankFor c id .start + n * sizeFor c id
 
 unfoldable pub invalidAt : List ℕ → ℕ → Bool
 invalidAt s k = eqb (numberAt s k 8) (2 ^ 64 - 1)
+
+-- n bytes from a place on; none where they pass the end
+unfoldable pub piece : List ℕ → ℕ → ℕ → List ℕ
+piece s at n = cond (leb (at + n) (length s)) (take n (drop at s)) []
+
+abbrev pub partOf : Place → ℕ → List ℕ → List ℕ → List ℕ
+partOf p lo low high = piece (named (p .bir) lo low high) (p .start) (p .size)
 
 -- instance n of so many, of so many bytes each from a start
 unfoldable pub unsound : List ℕ → ℕ → ℕ → ℕ → ℕ → ℕ

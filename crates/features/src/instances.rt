@@ -11,6 +11,7 @@ use crate::places::Found;
 use crate::places::Place;
 use crate::places::bar_of;
 use crate::places::number_of;
+use crate::places::part_of;
 use entries::faults::Bank;
 use entries::faults::bank_in;
 use entries::faults::empty;
@@ -123,10 +124,7 @@ pub fn instance<'a>(
     let Found::At(p) = instance_place(config, lo, low, hi, high, id, n) else {
         return &low[0..0];
     };
-    let bar = bar_of(p.bir, lo, low, high);
-    let a = p.start;
-    let e = a + p.size;
-    &bar[a..e]
+    part_of(p, lo, low, high)
 }
 
 // The number of an instance's lookup, 0 where its bytes are handed back.

@@ -2,6 +2,7 @@
 ghost use mathlib.Core.Path.{_≡_};
 ghost use Rattle.words.specs.Answers.{numberIn};
 ghost use Rattle.features.specs.Discovery.{named};
+ghost use Rattle.features.specs.Places.{piece, partOf};
 ghost use Rattle.features.specs.Told.{told};
 
 // `count` pieces of `size` bytes each, one after the other from `start` on, in the BAR capture with the number `bir`: a table of
@@ -41,4 +42,25 @@ pub fn bar_of<'a>(bir: u8, lo: u8, low: &'a [u8], high: &'a [u8]) -> &'a [u8]
         return low;
     }
     high
+}
+
+// `size` bytes from `start` on; none where they pass the end.
+fn piece(s: &[u8], start: usize, size: usize) -> &[u8]
+    ensures part { λ r. ⌜ now r ≡ piece (now (s .entry)) start size ⌝ }
+{
+    if s.len() < start {
+        return &s[0..0];
+    }
+    if s.len() - start < size {
+        return &s[0..0];
+    }
+    let end = start + size;
+    &s[start..end]
+}
+
+// The bytes of one piece at a place, a part of the BAR capture with its number; none where they pass its end.
+pub fn part_of<'a>(p: Place, lo: u8, low: &'a [u8], high: &'a [u8]) -> &'a [u8]
+    ensures part { λ r. ⌜ now r ≡ partOf p lo (now (low .entry)) (now (high .entry)) ⌝ }
+{
+    piece(bar_of(p.bir, lo, low, high), p.start, p.size)
 }
