@@ -9,11 +9,11 @@ use native.Mathlib.Omega.{arith}
 use borrow.Author.Tests.{lt-leb, le-leb, leb-true, leb-false, eqb-true, eqb-false, eq-eqb, ne-eqb, le-ltb, not-true}
 use lib.Dec.{ltb, leb, eqb}
 use lib.ListN.{length, take, drop, length-take, length-drop}
-use Rattle.words.specs.Answers.{Answer, refused, gives, numberIn, earliest}
+use Rattle.words.specs.Answers.{Answer, refused, gives, numberIn}
 use Rattle.words.specs.Below.{least}
 use Rattle.words.specs.Bytes.{AllBytes}
 use Rattle.words.proofs.TestLaws.{as-must, or-skip, and-both, and-holds, fails-exactly, fails-else, never-both}
-use Rattle.words.proofs.AnswerLaws.{earliest-pass, earliest-stop, earliest-last, earliest-zero, earliest-upto, earliest-end, first-upto, first-zero, first-none, first-skip, first-end}
+use Rattle.words.proofs.AnswerLaws.{earliest-stop, earliest-upto, earliest-end, first-upto, first-zero, first-none, first-skip, first-end, two-pass, two-zero, two-from}
 use Rattle.words.proofs.BelowLaws.{is-least}
 use Rattle.words.proofs.NumberLaws.{number-ones, ones-number}
 use Rattle.words.proofs.Theorems.{exact-fact}
@@ -27,17 +27,6 @@ use Rattle.features.specs.Places.{holds, indexIn, missing, bankFor, size
 use Rattle.features.specs.Facts.{Has, Ones, LookupFact, PlaceFact, ApartFact}
 use Rattle.features.proofs.PlaceLaws.{outside-room, outside-none, part-found}
 use Rattle.features.proofs.InsideLaws.{no-fault, discovered, index-there, entry-filled, bank-id, feature-found, size-some, instance-in-bank, instance-inside}
-
--- ---- a stage after a lookup: its refusal is handed on, else the stage decides
-
-handed-on : (n m : ℕ) → n ≢ 0 → earliest (n ∷ m ∷ []) ≡ n
-handed-on n m h = earliest-stop n (m ∷ []) h
-
-decided : {n : ℕ} (m : ℕ) → n ≡ 0 → earliest (n ∷ m ∷ []) ≡ m
-decided m z = earliest-pass (m ∷ []) z ∙ earliest-last m
-
-both-zero : (n m : ℕ) → (earliest (n ∷ m ∷ []) ≡ 0) ↔ ((n ≡ 0) × (m ≡ 0))
-both-zero n m = (λ e. let z = earliest-zero n (m ∷ []) e in (z .0, sym (earliest-last m) ∙ z .1), λ h. decided m (h .0) ∙ h .1)
 
 -- ---- a feature
 
@@ -91,14 +80,6 @@ outside-exactly : (size offset : ℕ) → ((not (eqb (offset % 8) 0) || ltb size
 unfolding outside
 outside-exactly size offset = (λ e. outside-room size offset (first-skip _ _ e ∙ first-end), λ h. or-skip _ (as-must (h .0)) ∙ le-ltb _ _ (h .1))
 
--- a number of a stage comes from the stage, where the lookup before it never gives that number
-from-stage : (n m k : ℕ) → k ≢ 0 → n ≢ k → earliest (n ∷ m ∷ []) ≡ k → (n ≡ 0) × (m ≡ k)
-from-stage n m k h o e = by (eqb n 0) refl
-  where
-    by : (t : Bool) → eqb n 0 ≡ t → (n ≡ 0) × (m ≡ k)
-    by true z = let z′ = eqb-true n 0 z in (z′, sym (decided m z′) ∙ e)
-    by false z = absurd (o (sym (handed-on n m (eqb-false n 0 z)) ∙ e))
-
 -- discovery gives no number above 11, so those of the lookups are told apart
 walk-small : (w : Answer) → Kept w → numberIn w ≤ 11
 walk-small (refused n) k = omega (arith, k .1)
@@ -128,27 +109,27 @@ lookup-fact c id n offset =
     let off = outside-exactly (sizeFor c id) offset in
     let n14 = exact-fact [] (not (eqb (offset % 8) 0) || ltb (sizeFor c id) (offset + 8)) 14 [] (λ z. omega arith) tt in
     record {
-      feature-handed-on = handed-on _ _;
-      feature-missing = λ z. (λ e. missing-twelve c id .0 (sym (decided _ z) ∙ e), λ h. decided _ z ∙ missing-twelve c id .1 h);
-      feature-found = (λ e. let z = both-zero _ _ .0 e in (z .0, missing-zero c id .0 (z .1)), λ h. both-zero _ _ .1 (h .0, missing-zero c id .1 (h .1)));
-      instance-handed-on = handed-on _ _;
-      instance-missing = λ z. (λ e. leb-true _ _ (n12 .0 (sym (decided _ z) ∙ e) .1), λ h. decided _ z ∙ n12 .1 (tt, le-leb _ _ h));
+      feature-handed-on = earliest-stop _ _;
+      feature-missing = λ z. (λ e. missing-twelve c id .0 (sym (two-pass _ z) ∙ e), λ h. two-pass _ z ∙ missing-twelve c id .1 h);
+      feature-found = (λ e. let z = two-zero _ _ .0 e in (z .0, missing-zero c id .0 (z .1)), λ h. two-zero _ _ .1 (h .0, missing-zero c id .1 (h .1)));
+      instance-handed-on = earliest-stop _ _;
+      instance-missing = λ z. (λ e. leb-true _ _ (n12 .0 (sym (two-pass _ z) ∙ e) .1), λ h. two-pass _ z ∙ n12 .1 (tt, le-leb _ _ h));
       instance-ones = λ b. (
-        λ e. let q = from-stage (featureNumber c id) _ 13 (λ z. omega arith) (λ z. omega (arith, feature-small c id, z)) e in let r = n13 .0 (q .1) in (q .0, leb-false _ _ (r .0 .0), invalid-exactly c _ b .0 (r .1)),
-        λ h. decided _ (h .0) ∙ n13 .1 ((lt-leb _ _ (h .1), tt), invalid-exactly c _ b .1 (h .2)),
+        λ e. let q = two-from (featureNumber c id) _ (λ z. omega (arith, feature-small c id, z)) e in let r = n13 .0 (q .1) in (q .0, leb-false _ _ (r .0 .0), invalid-exactly c _ b .0 (r .1)),
+        λ h. two-pass _ (h .0) ∙ n13 .1 ((lt-leb _ _ (h .1), tt), invalid-exactly c _ b .1 (h .2)),
       );
       instance-found = λ b. (
-        λ e. let z = both-zero _ _ .0 e in let f = first-zero _ tt (z .1) in (z .0, leb-false _ _ (f .0), fails-else bad (invalid-exactly c _ b) .0 (f .1 .0)),
-        λ h. both-zero _ _ .1 (h .0, first-none _ (lt-leb _ _ (h .1), (fails-else bad (invalid-exactly c _ b) .1 (h .2), tt))),
+        λ e. let z = two-zero _ _ .0 e in let f = first-zero _ tt (z .1) in (z .0, leb-false _ _ (f .0), fails-else bad (invalid-exactly c _ b) .0 (f .1 .0)),
+        λ h. two-zero _ _ .1 (h .0, first-none _ (lt-leb _ _ (h .1), (fails-else bad (invalid-exactly c _ b) .1 (h .2), tt))),
       );
-      register-handed-on = handed-on _ _;
+      register-handed-on = earliest-stop _ _;
       register-outside = (
-        λ e. let q = from-stage (instanceNumber c id n) _ 14 (λ z. omega arith) (λ z. omega (arith, instance-small c id n, z)) e in (q .0, fails-exactly _ off .0 (n14 .0 (q .1) .1)),
-        λ h. decided _ (h .0) ∙ n14 .1 (tt, fails-exactly _ off .1 (h .1)),
+        λ e. let q = two-from (instanceNumber c id n) _ (λ z. omega (arith, instance-small c id n, z)) e in (q .0, fails-exactly _ off .0 (n14 .0 (q .1) .1)),
+        λ h. two-pass _ (h .0) ∙ n14 .1 (tt, fails-exactly _ off .1 (h .1)),
       );
       register-found = (
-        λ e. let z = both-zero _ _ .0 e in let r = outside-room _ _ (z .1) in (z .0, r .0, r .1),
-        λ h. both-zero _ _ .1 (h .0, outside-none _ _ (h .1) (h .2)),
+        λ e. let z = two-zero _ _ .0 e in let r = outside-room _ _ (z .1) in (z .0, r .0, r .1),
+        λ h. two-zero _ _ .1 (h .0, outside-none _ _ (h .1) (h .2)),
       );
     }
 

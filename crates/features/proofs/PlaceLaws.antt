@@ -11,11 +11,11 @@ use lib.ListN.{length, take, drop}
 use Rattle.words.specs.Answers.{refused, gives, unless}
 use Rattle.words.specs.Bytes.{numberAt}
 use Rattle.words.proofs.TestLaws.{as-must, not-as-must, or-skip, or-take, or-second, or-neither}
-use Rattle.words.proofs.AnswerLaws.{first-skip, first-take, first-end, first-zero, stage-passes, stage-last, unless-number, unless-refused}
+use Rattle.words.proofs.AnswerLaws.{first-skip, first-take, first-end, first-zero, stage-passes, stage-last, unless-number, unless-refused, unless-stops, unless-passes}
 use Rattle.entries.specs.Faults.{bankIn}
 use Rattle.entries.proofs.FaultLaws.{Bounded, bank-bounded}
 use Rattle.features.specs.Discovery.{Capture, birOf, barOf, tableOf, entriesOf, numberOf, named, discoveryOf}
-use Rattle.features.specs.Places.{indexIn, missing, featureIn, bankFor, sizeFor, featureNumber, featureOf, startFor, invalidAt, piece, partOf, unsound, instanceIn, Roomy, instanceNumber, instanceOf, instancePart, outside, registerNumber, registerPlaceOf, registerOf}
+use Rattle.features.specs.Places.{indexIn, missing, featureIn, bankFor, sizeFor, featureNumber, featureOf, startFor, invalidAt, piece, unsound, instanceIn, Roomy, instanceNumber, instanceOf, instancePart, outside, registerNumber, registerPlaceOf, registerOf}
 use Rattle.features.specs.Valid.{validCountIn, countOf}
 use Rattle.features.specs.Told.{placed}
 use Rattle.features.specs.declared.places.Place.{Place}
@@ -173,7 +173,7 @@ module _ (c : Capture) where
   pub register-inside : (id n offset : ℕ) → instanceNumber c id n ≡ 0 → outside (sizeFor c id) offset ≡ 0
       → registerPlaceOf c id n offset ≡ gives (birOf c ∷ (startFor c id n + offset) ∷ 8 ∷ 1 ∷ [])
   unfolding registerPlaceOf registerNumber
-  register-inside id n offset z e = stage-passes _ _ z (stage-last _ _ ∙ ap (λ (k : ℕ). unless k (gives (birOf c ∷ (startFor c id n + offset) ∷ 8 ∷ 1 ∷ []))) e)
+  register-inside id n offset z e = stage-passes _ _ z (stage-last _ _ ∙ unless-passes _ e)
 
   -- ---- the part, and the content
 
@@ -187,20 +187,16 @@ module _ (c : Capture) where
 
   pub content-refused : (id n offset : ℕ) {m : ℕ} → registerPlaceOf c id n offset ≡ refused m → registerOf c id n offset ≡ refused m
   unfolding registerPlaceOf registerOf
-  content-refused id n offset {m} e =
-      let u = unless-refused (registerNumber c id n offset) _ e in
-      ap (λ (k : ℕ). unless k (gives (numberAt (barOf c) (startFor c id n + offset) 8 ∷ []))) (u .0) ∙ unless-number m _ (u .1)
+  content-refused id n offset e = unless-stops (registerNumber c id n offset) _ _ e
 
   pub content-found : (id n offset : ℕ) → registerNumber c id n offset ≡ 0 → registerOf c id n offset ≡ gives (numberAt (barOf c) (startFor c id n + offset) 8 ∷ [])
   unfolding registerOf
-  content-found id n offset z = ap (λ (k : ℕ). unless k (gives (numberAt (barOf c) (startFor c id n + offset) 8 ∷ []))) z
+  content-found id n offset z = unless-passes _ z
 
   pub count-refused : (id : ℕ) {m : ℕ} → featureOf c id ≡ refused m → countOf c id ≡ refused m
   unfolding featureOf countOf
-  count-refused id {m} e =
-      let u = unless-refused (featureNumber c id) _ e in
-      ap (λ (k : ℕ). unless k (gives (validCountIn (barOf c) (bankFor c id .start) (sizeFor c id) (bankFor c id .instances) ∷ []))) (u .0) ∙ unless-number m _ (u .1)
+  count-refused id e = unless-stops (featureNumber c id) _ _ e
 
   pub count-found : (id : ℕ) → featureNumber c id ≡ 0 → countOf c id ≡ gives (validCountIn (barOf c) (bankFor c id .start) (sizeFor c id) (bankFor c id .instances) ∷ [])
   unfolding countOf
-  count-found id z = ap (λ (k : ℕ). unless k (gives (validCountIn (barOf c) (bankFor c id .start) (sizeFor c id) (bankFor c id .instances) ∷ []))) z
+  count-found id z = unless-passes _ z

@@ -6,9 +6,9 @@ use native.Mathlib.Omega.{arith}
 use Rattle.words.specs.Answers.{Answer, refused, gives, first}
 use Rattle.words.specs.Below.{least}
 use Rattle.words.specs.Fields.{field, withField}
-use Rattle.words.specs.Tables.{withFields, wider}
+use Rattle.words.specs.Tables.{withFields, wider, writtenWord}
 use Rattle.windows.specs.Windows.{quartersOf, longEnough, placeOf, windowNumber, windowOf}
-use Rattle.windows.specs.Units.{unitsOf, values, writeNumber, registerOf, writtenOf}
+use Rattle.windows.specs.Units.{unitsOf, values, writtenOf}
 
 -- at T = 10 a time unit is 1/1,024 s: 0 ms, 1 ms, 1,000 ms and 28,000 ms; at T = 15 the longest window and one millisecond more; T 16
 abbrev asked-for : List Answer
@@ -33,10 +33,10 @@ unfolding unitsOf field
 units-read = refl
 
 units-back : writtenOf (unitsOf 0xFFFFFFFFFFFFABB3) ≡ gives (0xFFFFFFFFFFFFABB3 ∷ [])
-unfolding writtenOf writeNumber first wider registerOf withFields withField unitsOf field
+unfolding writtenWord first wider withFields withField unitsOf field
 units-back = refl
 
 -- a time unit of 16 does not fit its four bits
 units-wide : writtenOf (record { power = 3; reserved4 = 0; energy = 14; reserved11 = 0; time = 16; reserved16 = 0 }) ≡ refused 17
-unfolding writtenOf writeNumber first wider
+unfolding writtenWord first wider
 units-wide = refl

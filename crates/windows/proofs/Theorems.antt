@@ -2,25 +2,25 @@
 use Prim.Native.Nat.{ℕ, _+_, _*_, _/_, _%_, _^_, _<_, _≤_}
 use mathlib.Core.Path.{_≡_, refl, sym, ap, _∙_, subst}
 use mathlib.Core.Bool.{Bool, true, false}
-use mathlib.Core.List.{List, [], _∷_}
+use mathlib.Core.List.{[], _∷_}
 use mathlib.Core.Logic.{_⊎_, inl, inr, ⊎-elim}
 use native.Mathlib.Nat.{eq-or-lt-of-le, lt-of-not-le}
 use native.Mathlib.Omega.{arith}
 use borrow.Author.Tests.{ltb-false, ltb-true, eqb-true, eqb-false, leb-true, leb-false, le-leb, lt-leb}
 use lib.Dec.{ltb, leb, eqb}
 use lib.ListN.{getD}
-use Rattle.words.specs.Answers.{refused, gives}
+use Rattle.words.specs.Answers.{Answer, refused, gives}
 use Rattle.words.specs.Fields.{field}
 use Rattle.words.specs.Facts.{IsLeast}
-use Rattle.words.specs.Tables.{withFields, Fit, wider}
-use Rattle.words.proofs.AnswerLaws.{unless-refused, first-zero}
+use Rattle.words.proofs.AnswerLaws.{first-zero, once}
 use Rattle.words.proofs.BelowLaws.{is-least, least-once}
 use Rattle.words.proofs.FieldLaws.{field-lt}
-use Rattle.words.proofs.TableLaws.{fit-narrow, narrow-fit, fields-with, fields-fit, fields-whole, fields-lt}
-use Rattle.words.proofs.TestLaws.{fails-exactly, never-both}
-use Rattle.words.proofs.Theorems.{exact-fact, unless-fact, wider-fact}
+use Rattle.words.proofs.Structures.{word-trips}
+use Rattle.words.proofs.TestLaws.{never-both}
+use Rattle.words.proofs.Theorems.{exact-fact, unless-fact}
 use Rattle.windows.specs.Windows.{quartersOf, codeAt, asked, longEnough, placeOf, windowNumber, windowOf}
-use Rattle.windows.specs.Units.{widths, unitsOf, values, writeNumber, registerOf, writtenOf}
+use Rattle.windows.specs.Units.{widths, unitsOf, values}
+use Rattle.windows.specs.Told.{told, written}
 use Rattle.windows.specs.Facts.{Ranged, Before, Enough, IsFirst, IsShortest, NoneLong, WindowFact, UnitsFact, TimeRead, ToldOnce, WrittenOnce}
 use Rattle.windows.specs.declared.codes.Window.{Window}
 use Rattle.windows.specs.declared.codes.Window.the-variants as window
@@ -29,7 +29,7 @@ use Rattle.windows.specs.declared.units.Written.{Written}
 use Rattle.windows.specs.declared.units.Written.the-variants.{Register, Refused}
 use Rattle.windows.proofs.CodeLaws.{quarters-of, quarters-is, code-at, answer-17, answer-19, answer-code}
 use Rattle.windows.proofs.Order.{code-fact, any-code, not-before, lasts-once}
-use Rattle.windows.proofs.UnitLaws.{values-of, write-wide, write-right}
+use Rattle.windows.proofs.UnitLaws.{values-of, values-once}
 
 -- ---- the window code
 
@@ -172,46 +172,8 @@ module _ (ms unit : ℕ) where
 
 -- ---- units
 
-values-once : (u v : Units) → values u ≡ values v → u ≡ v
-values-once u v e = ap (λ (l : List ℕ). record { power = getD l 0 0; reserved4 = getD l 1 0; energy = getD l 2 0; reserved11 = getD l 3 0; time = getD l 4 0; reserved16 = getD l 5 0 }) e
-
-module _ (u : Units) where
-  refused-wide : writtenOf u ≡ refused 17 → wider widths (values u) ≡ true
-  unfolding writtenOf writeNumber
-  refused-wide e = exact-fact [] (wider widths (values u)) 17 [] (λ z. omega arith) tt .0 (unless-fact (writeNumber u) _ .refuses 17 .0 e .0) .1
-
-  -- the content that is given says the units
-  says : Fit widths (values u) → (registerOf u < 2 ^ 64) × (unitsOf (registerOf u) ≡ u)
-  unfolding registerOf
-  says f = (fields-lt 0 widths 0 (values u) 64 (omega arith) (omega arith), values-once _ u (values-of _ ∙ fields-with 0 widths 0 (values u) f))
-
-  given : (x : ℕ) → writtenOf u ≡ gives (x ∷ []) → (x < 2 ^ 64) × (unitsOf x ≡ u)
-  unfolding writtenOf writeNumber
-  given x e =
-      let n = unless-fact (writeNumber u) (registerOf u ∷ []) .accepts (x ∷ []) .0 e in
-      let q : registerOf u ≡ x = cc in
-      rw (← q) (says (narrow-fit widths (values u) refl (first-zero _ tt (n .0) .0)))
-
--- a content is given back
-given-back : (x : ℕ) → x < 2 ^ 64 → writtenOf (unitsOf x) ≡ gives (x ∷ [])
-unfolding registerOf
-given-back x h =
-    let fit : Fit widths (values (unitsOf x)) = subst (Fit widths) (sym (values-of x)) (fields-fit 0 widths x) in
-    write-right (unitsOf x) (fit-narrow widths _ fit)
-    ∙ ap (λ (y : ℕ). gives (y ∷ [])) (ap (withFields 0 widths 0) (values-of x) ∙ fields-whole widths x 0 h (omega arith))
-
 pub units-fact : (u : Units) → UnitsFact u
-units-fact u =
-    let exactly = fails-exactly (wider widths (values u)) (wider-fact widths (values u) refl) in
-    record {
-      seventeen = (λ e. exactly .0 (refused-wide u e), λ n. write-wide u (exactly .1 n));
-      content = λ x. (given u x, λ h. rw (← h .1) (given-back x (h .0)));
-      complete = by (wider widths (values u)) refl;
-    }
-  where
-    by : (t : Bool) → wider widths (values u) ≡ t → (writtenOf u ≡ refused 17) ⊎ ((x : ℕ) × (writtenOf u ≡ gives (x ∷ [])))
-    by true e = inl (write-wide u e)
-    by false e = inr (registerOf u, write-right u e)
+units-fact = word-trips widths values unitsOf values-of values-once (λ u. refl)
 
 pub time-read : (x : ℕ) → TimeRead x
 unfolding unitsOf
@@ -219,17 +181,26 @@ time-read x ms e = omega (arith, refused-17 ms (unitsOf x .time) e, field-lt 12 
 
 -- ---- two answers that say the same are the same
 
-never-gives : {xs : List ℕ} {n : ℕ} → gives xs ≡ refused n → ⊥
-never-gives {xs} e = let n = unless-refused 0 xs e in n .1 (sym (n .0))
+untold : Answer → Window
+untold (refused n) = window.Refused n
+untold (gives l) = window.Code (getD l 0 0)
 
 pub told-once : (a b : Window) → ToldOnce a b
-told-once (window.Code c) (window.Code d) e = cc
-told-once (window.Refused m) (window.Refused n) e = cc
-told-once (window.Code c) (window.Refused n) e = absurd (never-gives e)
-told-once (window.Refused m) (window.Code d) e = absurd (never-gives (sym e))
+unfolding untold
+told-once = once told untold back
+  where
+    back : (a : Window) → untold (told a) ≡ a
+    back (window.Code c) = refl
+    back (window.Refused n) = refl
+
+unwritten : Answer → Written
+unwritten (refused n) = Refused n
+unwritten (gives l) = Register (getD l 0 0)
 
 pub written-once : (a b : Written) → WrittenOnce a b
-written-once (Register x) (Register y) e = cc
-written-once (Refused m) (Refused n) e = cc
-written-once (Register x) (Refused n) e = absurd (never-gives e)
-written-once (Refused m) (Register y) e = absurd (never-gives (sym e))
+unfolding unwritten
+written-once = once written unwritten back
+  where
+    back : (a : Written) → unwritten (written a) ≡ a
+    back (Register x) = refl
+    back (Refused n) = refl

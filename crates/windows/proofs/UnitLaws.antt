@@ -1,36 +1,16 @@
--- The units' table of fields, read and written. Assumes nothing.
+-- The units' table of fields: their numbers are the register's fields, and say the units. Assumes nothing.
 use Prim.Native.Nat.{ℕ}
-use mathlib.Core.Path.{_≡_, refl, ap, _∙_}
-use mathlib.Core.Bool.{true, false}
-use mathlib.Core.List.{[], _∷_}
-use Rattle.words.specs.Answers.{refused, gives, unless}
-use Rattle.words.specs.Tables.{fields, wider}
-use Rattle.words.proofs.AnswerLaws.{first-skip, first-take, first-end}
-use Rattle.windows.specs.Units.{widths, unitsOf, values, writeNumber, registerOf, writtenOf}
+use mathlib.Core.Path.{_≡_, refl, ap}
+use mathlib.Core.List.{List}
+use lib.ListN.{getD}
+use Rattle.words.specs.Tables.{fields}
+use Rattle.windows.specs.Units.{widths, unitsOf, values}
 use Rattle.windows.specs.declared.units.Units.{Units}
-
--- ---- the units
 
 -- the numbers of what a register says are its fields
 pub values-of : (x : ℕ) → values (unitsOf x) ≡ fields 0 widths x
 unfolding unitsOf fields
 values-of x = refl
 
-module _ (u : Units) where
-  by-number : (n : ℕ) → writeNumber u ≡ n → writtenOf u ≡ unless n (gives (registerOf u ∷ []))
-  unfolding writtenOf
-  by-number n e = ap (λ (m : ℕ). unless m (gives (registerOf u ∷ []))) e
-
-  number-wide : wider widths (values u) ≡ true → writeNumber u ≡ 17
-  unfolding writeNumber
-  number-wide h = first-take _ _ h
-
-  number-right : wider widths (values u) ≡ false → writeNumber u ≡ 0
-  unfolding writeNumber
-  number-right h = first-skip _ _ h ∙ first-end
-
-  pub write-wide : wider widths (values u) ≡ true → writtenOf u ≡ refused 17
-  write-wide h = by-number 17 (number-wide h)
-
-  pub write-right : wider widths (values u) ≡ false → writtenOf u ≡ gives (registerOf u ∷ [])
-  write-right h = by-number 0 (number-right h)
+pub values-once : (u v : Units) → values u ≡ values v → u ≡ v
+values-once u v e = ap (λ (l : List ℕ). record { power = getD l 0 0; reserved4 = getD l 1 0; energy = getD l 2 0; reserved11 = getD l 3 0; time = getD l 4 0; reserved16 = getD l 5 0 }) e

@@ -7,9 +7,9 @@ use mathlib.Core.Logic.{_⊎_, _↔_, _≢_}
 use mathlib.Core.List.{[], _∷_}
 use Rattle.words.specs.Answers.{refused, gives}
 use Rattle.words.specs.Fields.{field}
-use Rattle.words.specs.Tables.{Fit}
+use Rattle.words.specs.Facts.{WordTrips}
 use Rattle.windows.specs.Windows.{quartersOf, codeOf, windowOf}
-use Rattle.windows.specs.Units.{widths, unitsOf, values, writtenOf}
+use Rattle.windows.specs.Units.{widths, unitsOf, values}
 use Rattle.windows.specs.Told.{told, written}
 use Rattle.windows.specs.declared.codes.Window.{Window}
 use Rattle.windows.specs.declared.units.Units.{Units}
@@ -85,12 +85,11 @@ pub record WindowFact (ms unit : ℕ) : Type 0 where
 
 -- ---- units
 
--- Writing: 17 exactly if a number does not fit; a content is given exactly if it has 64 bits and says these units; one of the two always
--- comes. So a register read and written back is the same 64 bits, reserved ones too, and units written and read back are the same.
-pub record UnitsFact (u : Units) : Type 0 where
-  pub seventeen : (writtenOf u ≡ refused 17) ↔ (Fit widths (values u) → ⊥)
-  pub content : (x : ℕ) → (writtenOf u ≡ gives (x ∷ [])) ↔ ((x < 2 ^ 64) × (unitsOf x ≡ u))
-  pub complete : (writtenOf u ≡ refused 17) ⊎ ((x : ℕ) × (writtenOf u ≡ gives (x ∷ [])))
+-- Writing (`writtenOf u`): 17 exactly if a number does not fit; a content is given exactly if it has 64 bits and says these units; one of
+-- the two always comes. So a register read and written back is the same 64 bits, reserved ones too, and units written and read back are
+-- the same.
+abbrev pub UnitsFact : Units → Type 0
+UnitsFact u = WordTrips widths values unitsOf u
 
 -- A time unit that was read is in its range.
 abbrev pub TimeRead : ℕ → Type 0

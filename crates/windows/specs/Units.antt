@@ -1,17 +1,15 @@
 -- The units of a domain, register 1 (document 01, "RAPL domains"; document 001, "Power Unit (idx 1)"). Each unit is one over 2 to its
 -- number: the power unit in W, the energy unit in J, the time unit in s. Reserved bits are kept.
---   widths          the register's fields from bit 0 up, the reserved ones too
---   unitsOf x       the units that a register's content says
---   values u        their numbers in the order of the table
---   writeNumber u   what writing them answers: 17, 0 where they are accepted
---   registerOf u    the content that says them
---   writtenOf u     the answer: 17, or the content
+--   widths        the register's fields from bit 0 up, the reserved ones too
+--   unitsOf x     the units that a register's content says
+--   values u      their numbers in the order of the table
+--   writtenOf u   what writing them answers: 17, or the content that says them
 -- Assumes nothing.
 use Prim.Native.Nat.{ℕ}
 use mathlib.Core.List.{List, [], _∷_}
-use Rattle.words.specs.Answers.{Answer, gives, first, unless}
+use Rattle.words.specs.Answers.{Answer}
 use Rattle.words.specs.Fields.{field}
-use Rattle.words.specs.Tables.{withFields, wider}
+use Rattle.words.specs.Tables.{writtenWord}
 use Rattle.windows.specs.declared.units.Units.{Units}
 
 -- PWR_UNIT, reserved 5:4, ENERGY_UNIT, reserved 11, TIME_UNIT, reserved 63:16
@@ -32,11 +30,5 @@ unitsOf x =
 abbrev pub values : Units → List ℕ
 values u = u .power ∷ u .reserved4 ∷ u .energy ∷ u .reserved11 ∷ u .time ∷ u .reserved16 ∷ []
 
-unfoldable pub writeNumber : Units → ℕ
-writeNumber u = first ((wider widths (values u), 17) ∷ [])
-
-unfoldable pub registerOf : Units → ℕ
-registerOf u = withFields 0 widths 0 (values u)
-
-unfoldable pub writtenOf : Units → Answer
-writtenOf u = unless (writeNumber u) (gives (registerOf u ∷ []))
+abbrev pub writtenOf : Units → Answer
+writtenOf u = writtenWord widths (values u)

@@ -1,8 +1,8 @@
 // The units of a domain, register 1, as a value with all its fields, the reserved ones too: read from the register's 64 bits and
 // written to them.
 ghost use mathlib.Core.Path.{_≡_};
-ghost use Rattle.words.specs.Tables.{wider};
-ghost use Rattle.windows.specs.Units.{widths, values, unitsOf, registerOf, writtenOf};
+ghost use Rattle.words.specs.Tables.{withFields, wider};
+ghost use Rattle.windows.specs.Units.{widths, values, unitsOf, writtenOf};
 ghost use Rattle.windows.specs.Told.{written};
 use words::fields::field;
 use words::fields::with_field;
@@ -62,7 +62,7 @@ fn too_wide(u: Units) -> bool
 }
 
 fn register_of(u: Units) -> u64
-    ensures answer { λ r. ⌜ r ≡ registerOf u ⌝ }
+    ensures answer { λ r. ⌜ r ≡ withFields 0 widths 0 (values u) ⌝ }
 {
     let a = with_field(0, 0, 4, u.power);
     let b = with_field(a, 4, 2, u.reserved4);

@@ -1,7 +1,7 @@
 -- Laws of `unless`, `first` and `earliest`: a chain of tests, test by test; stages, one by one; and back again. Assumes nothing.
 use Prim.Native.Nat.{ℕ, zero, suc, _≤_}
 use mathlib.Core.Path.{_≡_, refl, ap, sym, _∙_, subst}
-use mathlib.Core.Logic.{_≢_}
+use mathlib.Core.Logic.{_↔_, _≢_}
 use mathlib.Core.List.{List, [], _∷_, _++_}
 use mathlib.Core.Bool.{Bool, true, false, not, _&&_, cond}
 use native.Mathlib.Omega.{arith}
@@ -30,6 +30,13 @@ unless-refused (suc n) xs e = (cc, λ h. let z : suc n ≡ 0 = cc in omega arith
 pub unless-number-in : (n : ℕ) (xs : List ℕ) → numberIn (unless n (gives xs)) ≡ n
 unless-number-in zero xs = refl
 unless-number-in (suc n) xs = refl
+
+-- of two lookups with one number: where one refuses, so does the other, and where it passes, the other's answer comes
+pub unless-stops : (n : ℕ) (xs : List ℕ) (a : Answer) {m : ℕ} → unless n (gives xs) ≡ refused m → unless n a ≡ refused m
+unless-stops n xs a {m} e = let u = unless-refused n xs e in ap (λ (k : ℕ). unless k a) (u .0) ∙ unless-number m a (u .1)
+
+pub unless-passes : {n : ℕ} (a : Answer) → n ≡ 0 → unless n a ≡ a
+unless-passes a e = ap (λ (k : ℕ). unless k a) e
 
 -- what has a way back tells two things apart: why two answers that say the same are the same
 pub once : {A B : Type 0} (f : A → B) (g : B → A) → ((a : A) → g (f a) ≡ a) → (a b : A) → f a ≡ f b → a ≡ b
@@ -167,6 +174,19 @@ pub earliest-last : (n : ℕ) → earliest (n ∷ []) ≡ n
 unfolding earliest orElse
 earliest-last zero = refl
 earliest-last (suc n) = refl
+
+-- two stages: the second decides where the first passes; both pass, or a number is refused; a number that the first does not give
+-- comes from the second
+pub two-pass : {n : ℕ} (m : ℕ) → n ≡ 0 → earliest (n ∷ m ∷ []) ≡ m
+two-pass m z = earliest-pass (m ∷ []) z ∙ earliest-last m
+
+pub two-zero : (n m : ℕ) → (earliest (n ∷ m ∷ []) ≡ 0) ↔ ((n ≡ 0) × (m ≡ 0))
+two-zero n m = (λ e. let z = earliest-zero n (m ∷ []) e in (z .0, sym (earliest-last m) ∙ z .1), λ h. two-pass m (h .0) ∙ h .1)
+
+pub two-from : (n m : ℕ) {k : ℕ} → n ≢ k → earliest (n ∷ m ∷ []) ≡ k → (n ≡ 0) × (m ≡ k)
+unfolding earliest orElse
+two-from zero m h e = (refl, sym (earliest-last m) ∙ e)
+two-from (suc n) m h e = absurd (h e)
 
 pub earliest-upto : (b n : ℕ) (ns : List ℕ) → n ≤ b → earliest ns ≤ b → earliest (n ∷ ns) ≤ b
 unfolding earliest

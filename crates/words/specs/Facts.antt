@@ -1,5 +1,6 @@
 -- What is proved of the definitions of this crate, for every number and every list. Each record is one theorem, to be read
--- without its proof; proofs/Theorems.antt has a proof of each, under the same name with hyphens (ValueTrips: proofs/Structures.antt).
+-- without its proof; proofs/Theorems.antt has a proof of each, under the same name with hyphens (ValueTrips, WordTrips:
+-- proofs/Structures.antt).
 -- Assumes nothing.
 use Prim.Native.Nat.{ℕ, _+_, _*_, _/_, _%_, _^_, _≤_, _<_}
 use mathlib.Core.Path.{_≡_}
@@ -11,7 +12,7 @@ use lib.Dec.{T, ltb, eqb}
 use lib.Count.{ones}
 use Rattle.words.specs.Bytes.{AllBytes, numberAt, stored}
 use Rattle.words.specs.Fields.{field, withField, bit}
-use Rattle.words.specs.Tables.{fields, withFields, total, Fit, wider}
+use Rattle.words.specs.Tables.{fields, withFields, total, Fit, wider, writtenWord}
 use Rattle.words.specs.Answers.{refused, gives, unless, first, earliest}
 use Rattle.words.specs.Below.{anyBelow, firstBelow, least}
 use Rattle.words.specs.Masks.{one, howMany, maskOf}
@@ -84,6 +85,15 @@ pub record ValueTrips {S : Type 0} (n : ℕ) (read : List ℕ → S) (number : L
   pub kept : (v : S) → number s v ≡ 0 → read (written s v) ≡ v
   pub past : (v : S) (k : ℕ) → n ≤ k → getD (written s v) k 0 ≡ getD s k 0
   pub refused-kept : (v : S) → number s v ≢ 0 → written s v ≡ s
+
+-- A register as a value of the code, its table ws: `values` are a value's numbers in the order of the table, `read` makes the value that a
+-- content holds. Writing: 17 exactly if a number does not fit its field; a content is given exactly if it has no more bits than the table
+-- and reads as this value; one of the two always comes. So a register read and written back is the same bits, reserved ones too, and a
+-- value written and read back is the same.
+pub record WordTrips {S : Type 0} (ws : List ℕ) (values : S → List ℕ) (read : ℕ → S) (v : S) : Type 0 where
+  pub seventeen : (writtenWord ws (values v) ≡ refused 17) ↔ (Fit ws (values v) → ⊥)
+  pub content : (x : ℕ) → (writtenWord ws (values v) ≡ gives (x ∷ [])) ↔ ((x < 2 ^ total ws) × (read x ≡ v))
+  pub complete : (writtenWord ws (values v) ≡ refused 17) ⊎ ((x : ℕ) × (writtenWord ws (values v) ≡ gives (x ∷ [])))
 
 -- Two words side by side, x of the widths ws below and y of the widths us above: their fields are those of the one and then those
 -- of the other, read and written.

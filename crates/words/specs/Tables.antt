@@ -6,11 +6,13 @@
 --   Fit ws vs              a value for each field, each below 2 to its width
 --   wider ws vs            some value does not fit its field
 --   writtenUnless          what a part holds once a structure of n bytes was written to it: as it was where the number is not 0
+--   writtenWord ws vs      what writing the values to a register answers: 17 where one does not fit its field, else the content
 -- Assumes nothing.
 use Prim.Native.Nat.{ℕ, _+_, _^_, _<_}
 use mathlib.Core.Bool.{Bool, false, cond, _||_}
 use mathlib.Core.List.{List, [], _∷_}
 use lib.Dec.{leb, eqb}
+use Rattle.words.specs.Answers.{Answer, gives, first, unless}
 use Rattle.words.specs.Bytes.{stored}
 use Rattle.words.specs.Fields.{field, withField}
 
@@ -40,3 +42,7 @@ wider (w ∷ ws) (v ∷ vs) = leb (2 ^ w) v || wider ws vs
 
 abbrev pub writtenUnless : ℕ → ℕ → List ℕ → List ℕ → List ℕ → List ℕ
 writtenUnless number n ws vs s = cond (eqb number 0) (stored s 0 n (withFields 0 ws 0 vs)) s
+
+-- 17 is document 01's "a number outside its range"
+unfoldable pub writtenWord : List ℕ → List ℕ → Answer
+writtenWord ws vs = unless (first ((wider ws vs, 17) ∷ [])) (gives (withFields 0 ws 0 vs ∷ []))

@@ -1,6 +1,5 @@
 -- `windows::units::register_of` meets its contract: one field after the other. Assumes nothing.
 use Rattle.words.specs.Tables.{withFields}
-use Rattle.windows.specs.Units.{registerOf}
 use borrow.Author.Needs.{needs}
 use Rattle.windows.proofs.units.register_of.Statement.{statement}
 use Rattle.windows.proofs.units.register_of.Tie as tie
@@ -24,7 +23,7 @@ with-field-requires-6 : tie.Need-with-field-requires-6
 with-field-requires-6 c κs = search needs
 
 returns : tie.Need-returns
-unfolding registerOf withFields
+unfolding withFields
 returns c =
     rw (
       c .with-field6 .ensures,

@@ -3,7 +3,8 @@ use mathlib.Core.Path.{sym, ap, _∙_}
 use mathlib.Core.List.{[], _∷_}
 use Prim.Native.Nat.{ℕ}
 use Rattle.words.specs.Answers.{gives}
-use Rattle.windows.proofs.UnitLaws.{write-wide, write-right}
+use Rattle.words.proofs.Structures.{word-wide, word-right}
+use Rattle.windows.specs.Units.{widths, values}
 use borrow.Author.Needs.{needs}
 use Rattle.windows.proofs.units.write.Statement.{statement}
 use Rattle.windows.proofs.units.write.Tie as tie
@@ -12,7 +13,7 @@ too-wide-requires : tie.Need-too-wide-requires
 too-wide-requires c κs = search needs
 
 returns : tie.Need-returns
-returns c = sym (write-wide (c .before .before .args .u) (sym (c .before .too-wide .ensures) ∙ c .if1 .taken))
+returns c = sym (word-wide widths (values (c .before .before .args .u)) (sym (c .before .too-wide .ensures) ∙ c .if1 .taken))
 
 register-of-requires : tie.Need-register-of-requires
 register-of-requires c κs = search needs
@@ -20,7 +21,7 @@ register-of-requires c κs = search needs
 returns-2 : tie.Need-returns-2
 returns-2 c =
     ap (λ (x : ℕ). gives (x ∷ [])) (c .register-of .ensures)
-    ∙ sym (write-right (c .before .before .before .args .u) (sym (c .before .before .too-wide .ensures) ∙ c .before .if1 .left))
+    ∙ sym (word-right widths (values (c .before .before .before .args .u)) (sym (c .before .before .too-wide .ensures) ∙ c .before .if1 .left))
 
 pub write-spec : {M : Type 1} → statement M
 write-spec = tie.close (tie.spec too-wide-requires returns register-of-requires returns-2)

@@ -1,0 +1,145 @@
+-- The theorems of Facts.antt on the lookup of a domain, its registers, and both over a capture. Assumes nothing.
+use Prim.Native.Nat.{ℕ, _≤_, _<_}
+use mathlib.Core.Path.{_≡_, sym, ap, _∙_}
+use mathlib.Core.Bool.{true, false, not}
+use mathlib.Core.List.{List, [], _∷_}
+use mathlib.Core.Logic.{inl, inr, ⊎-elim, _↔_, _≢_}
+use native.Mathlib.Omega.{arith}
+use borrow.Author.Tests.{lt-ltb, le-ltb, ltb-true, ltb-false, eq-eqb, eqb-true, not-true, not-false}
+use lib.Dec.{ltb, eqb}
+use Rattle.words.specs.Answers.{Answer, refused, gives, unless}
+use Rattle.words.proofs.AnswerLaws.{unless-number, unless-gives, unless-passes, first-zero, first-none, earliest-stop, two-pass, two-zero, two-from}
+use Rattle.words.proofs.TestLaws.{as-must, or-neither, or-either, or-skip, or-second, fails-exactly, fails-else}
+use Rattle.words.proofs.Theorems.{exact-fact, unless-fact}
+use Rattle.features.specs.Discovery.{Capture}
+use Rattle.features.specs.Places.{instanceNumber}
+use Rattle.domains.specs.Domains.{headerIn, missing, unused, wrong, unsound, domainNumber, domainOf}
+use Rattle.domains.specs.Registers.{present, registerAt, absent, contentNumber, contentOf}
+use Rattle.domains.specs.Lookups.{domainFor, contentFor, chainFor}
+use Rattle.domains.specs.Facts.{There, One, DomainFact, Present, RegisterFact, CaptureFact}
+use Rattle.domains.proofs.DomainLaws.{block-there, there, number-low}
+use Rattle.domains.proofs.RegisterLaws.{present-0, present-1, present-9, absent-17, absent-26, absent-none}
+
+-- ---- the lookup
+
+module _ (s : List ℕ) (n : ℕ) where
+  there-exactly : (missing s n ≡ false) ↔ There s n
+  there-exactly = (there s n, λ t. block-there s n (t .0) (t .1))
+
+  unused-exactly : (unused (headerIn s n) ≡ true) ↔ (headerIn s n .kind ≡ 0)
+  unfolding unused
+  unused-exactly = (eqb-true _ _, eq-eqb _ _)
+
+  used-exactly : (unused (headerIn s n) ≡ false) ↔ (headerIn s n .kind ≢ 0)
+  used-exactly = fails-else (unused (headerIn s n)) unused-exactly
+
+  sound-exactly : (unsound s n ≡ false) ↔ One s n
+  unfolding unsound wrong
+  sound-exactly = (
+    λ e. let f = or-neither (not (eqb (headerIn s n .version) 1)) _ e in (eqb-true _ _ (not-false _ (f .0)), eqb-true _ _ (not-false _ (f .1))),
+    λ o. or-skip _ (as-must (o .0)) ∙ as-must (o .1),
+  )
+
+  pub domain-fact : DomainFact s n
+  unfolding domainNumber domainOf
+  domain-fact =
+      let n12 = exact-fact [] (missing s n) 12 ((unused (headerIn s n), 15) ∷ (unsound s n, 16) ∷ []) (λ z. omega arith) tt in
+      let n15 = exact-fact ((missing s n, 12) ∷ []) (unused (headerIn s n)) 15 ((unsound s n, 16) ∷ []) (λ z. omega arith) tt in
+      let n16 = exact-fact ((missing s n, 12) ∷ (unused (headerIn s n), 15) ∷ []) (unsound s n) 16 [] (λ z. omega arith) tt in
+      let gone = fails-exactly (missing s n) there-exactly in
+      let bad = fails-exactly (unsound s n) sound-exactly in
+      record {
+        missing = (λ e. gone .0 (n12 .0 e .1), λ h. n12 .1 (tt, gone .1 h));
+        unused = (
+          λ e. let f = n15 .0 e in (there-exactly .0 (f .0 .0), unused-exactly .0 (f .1)),
+          λ h. n15 .1 ((there-exactly .1 (h .0), tt), unused-exactly .1 (h .1)),
+        );
+        unsound = (
+          λ e. let f = n16 .0 e in (there-exactly .0 (f .0 .0), used-exactly .0 (f .0 .1 .0), bad .0 (f .1)),
+          λ h. n16 .1 ((there-exactly .1 (h .0), (used-exactly .1 (h .1), tt)), bad .1 (h .2)),
+        );
+        sound = (
+          λ e. let f = first-zero _ tt e in (there-exactly .0 (f .0), used-exactly .0 (f .1 .0), sound-exactly .0 (f .1 .1 .0)),
+          λ h. first-none _ (there-exactly .1 (h .0), (used-exactly .1 (h .1), (sound-exactly .1 (h .2), tt))),
+        );
+        answer = (λ e. unless-gives _ e .0, λ z. unless-passes _ z);
+      }
+
+-- ---- registers
+
+present-exactly : (flags r : ℕ) → (present flags r ≡ true) ↔ Present flags r
+unfolding present
+present-exactly flags r = (
+  λ e.
+      ⊎-elim (λ a. inl (eqb-true _ _ a))
+      (λ f. ⊎-elim (λ a. inr (inl (eqb-true _ _ a))) (λ g. ⊎-elim (λ a. inr (inr (inl (eqb-true _ _ a)))) (λ a. inr (inr (inr (eqb-true _ _ a)))) (or-either (eqb r 9) _ g)) (or-either (eqb r 1) _ f))
+      (or-either (eqb r 0) _ e),
+  ⊎-elim (present-0 flags r) (⊎-elim (present-1 flags r) (⊎-elim (present-9 flags r) (λ b. or-second (eqb r 0) (or-second (eqb r 1) (or-second (eqb r 9) (eq-eqb _ _ b)))))),
+)
+
+absent-exactly : (flags r : ℕ) → (present flags r ≡ false) ↔ (Present flags r → ⊥)
+absent-exactly flags r = fails-else (present flags r) (present-exactly flags r)
+
+-- the register's own tests: 17, 26, none
+seventeen-exactly : (flags r : ℕ) → (absent flags r ≡ 17) ↔ (15 < r)
+unfolding absent
+seventeen-exactly flags r =
+    let n17 = exact-fact [] (ltb 15 r) 17 ((not (present flags r), 26) ∷ []) (λ z. omega arith) tt in
+    (λ e. ltb-true _ _ (n17 .0 e .1), absent-17 flags r)
+
+twenty-six-exactly : (flags r : ℕ) → (absent flags r ≡ 26) ↔ ((r ≤ 15) × (Present flags r → ⊥))
+unfolding absent
+twenty-six-exactly flags r =
+    let n26 = exact-fact ((ltb 15 r, 17) ∷ []) (not (present flags r)) 26 [] (λ z. omega arith) tt in
+    (λ e. let f = n26 .0 e in (ltb-false _ _ (f .0 .0), absent-exactly flags r .0 (not-true _ (f .1))), λ h. absent-26 flags r (h .0) (absent-exactly flags r .1 (h .1)))
+
+none-exactly : (flags r : ℕ) → (absent flags r ≡ 0) ↔ ((r ≤ 15) × Present flags r)
+unfolding absent
+none-exactly flags r = (
+  λ e. let f = first-zero _ tt e in (ltb-false _ _ (f .0), present-exactly flags r .0 (not-false _ (f .1 .0))),
+  λ h. absent-none flags r (h .0) (present-exactly flags r .1 (h .1)),
+)
+
+module _ (s : List ℕ) (n r : ℕ) where
+  -- a number above those of the lookup comes from the register's own tests
+  own : (k : ℕ) → 16 < k → (contentOf s n r ≡ refused k) ↔ ((domainNumber s n ≡ 0) × (absent (headerIn s n .flags) r ≡ k))
+  unfolding contentOf contentNumber
+  own k h = (
+    λ e. two-from (domainNumber s n) _ (λ z. omega (arith, z, number-low s n)) (unless-fact (contentNumber s n r) (registerAt s n r ∷ []) .refuses k .0 e .0),
+    λ a. unless-fact (contentNumber s n r) (registerAt s n r ∷ []) .refuses k .1 (two-pass _ (a .0) ∙ a .1, λ z. omega arith),
+  )
+
+  pub register-fact : RegisterFact s n r
+  unfolding contentOf contentNumber
+  register-fact =
+      let given = unless-fact (contentNumber s n r) (registerAt s n r ∷ []) .accepts in
+      let f : ℕ = headerIn s n .flags in
+      record {
+        handed-on = λ h. ap (λ (k : ℕ). unless k (gives (registerAt s n r ∷ []))) (earliest-stop (domainNumber s n) _ h) ∙ unless-number _ _ h;
+        seventeen = (λ e. let a = own 17 (omega arith) .0 e in (a .0, seventeen-exactly f r .0 (a .1)), λ h. own 17 (omega arith) .1 (h .0, seventeen-exactly f r .1 (h .1)));
+        absent = (
+          λ e. let a = own 26 (omega arith) .0 e in let b = twenty-six-exactly f r .0 (a .1) in (a .0, b .0, b .1),
+          λ h. own 26 (omega arith) .1 (h .0, twenty-six-exactly f r .1 (h .1, h .2)),
+        );
+        content = λ x. (
+          λ e.
+              let g = given (x ∷ []) .0 e in
+              let z = two-zero _ _ .0 (g .0) in
+              let b = none-exactly f r .0 (z .1) in
+              let same = g .1 in
+              (z .0, b .0, b .1, cc),
+          λ h. given (x ∷ []) .1 (two-zero _ _ .1 (h .0, none-exactly f r .1 (h .1, h .2)), ap (λ (y : ℕ). y ∷ []) (h .3)),
+        );
+      }
+
+-- ---- over a capture
+
+pub capture-fact : (c : Capture) (i n r : ℕ) → CaptureFact c i n r
+unfolding domainFor contentFor chainFor
+capture-fact c i n r =
+    record {
+      handed-on = λ a h. unless-number (instanceNumber c 0 i) _ h;
+      domain = λ z. unless-passes _ z;
+      register = λ z. unless-passes _ z;
+      chain = λ z. unless-passes _ z;
+    }

@@ -1,0 +1,23 @@
+-- Domains over a capture: the instance's refusal, or what is said of its bytes. Assumes nothing.
+use Prim.Native.Nat.{ℕ}
+use mathlib.Core.Path.{_≡_, sym, ap, _∙_}
+use mathlib.Core.List.{List}
+use Rattle.words.specs.Answers.{Answer, refused, gives}
+use Rattle.words.proofs.AnswerLaws.{unless-stops, unless-passes}
+use Rattle.features.specs.Discovery.{Capture}
+use Rattle.features.specs.Places.{partOf, instanceNumber, instanceOf, instancePart}
+use Rattle.features.specs.Told.{placed}
+use Rattle.features.specs.declared.places.Place.{Place}
+use Rattle.features.proofs.PlaceLaws.{instance-at}
+use Rattle.features.proofs.InsideLaws.{part-at}
+use Rattle.domains.specs.Lookups.{instanceOr}
+
+module _ (c : Capture) (i : ℕ) (a : List ℕ → Answer) where
+  pub or-refused : {m : ℕ} → instanceOf c 0 i ≡ refused m → instanceOr c i a ≡ refused m
+  unfolding instanceOf
+  or-refused e = unless-stops (instanceNumber c 0 i) _ _ e
+
+  pub or-found : {p : Place} {s : List ℕ} → instanceOf c 0 i ≡ gives (placed p) → s ≡ partOf p (c .lo) (c .low) (c .high) → a s ≡ instanceOr c i a
+  or-found e same =
+      let q = instance-at c 0 i e in
+      ap a (same ∙ part-at c 0 i q) ∙ sym (unless-passes (a (instancePart c 0 i)) (q .zero))

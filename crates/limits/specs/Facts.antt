@@ -1,0 +1,12 @@
+-- What is proved of limits, for every number. Each is to be read without its proof; proofs/Theorems.antt has a proof of each, under the
+-- same name with hyphens.
+-- Assumes nothing.
+use Rattle.words.specs.Facts.{WordTrips}
+use Rattle.limits.specs.Limit.{widths, limitOf, values}
+use Rattle.limits.specs.declared.limit.Limit.{Limit}
+
+-- Writing (`writtenOf l`): 17 exactly if a number does not fit; a content is given exactly if it has 64 bits and says this limit; one of
+-- the two always comes. So a register read and written back is the same 64 bits, reserved ones too, and a limit written and read back is
+-- the same.
+abbrev pub LimitFact : Limit → Type 0
+LimitFact l = WordTrips widths values limitOf l
