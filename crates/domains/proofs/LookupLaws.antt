@@ -2,8 +2,9 @@
 use Prim.Native.Nat.{ℕ}
 use mathlib.Core.Path.{_≡_, sym, ap, _∙_}
 use mathlib.Core.List.{List}
+use mathlib.Core.Logic.{_≢_}
 use Rattle.words.specs.Answers.{Answer, refused, gives}
-use Rattle.words.proofs.AnswerLaws.{unless-stops, unless-passes}
+use Rattle.words.proofs.AnswerLaws.{unless-refused, unless-stops, unless-passes}
 use Rattle.features.specs.Discovery.{Capture}
 use Rattle.features.specs.Places.{partOf, instanceNumber, instanceOf, instancePart}
 use Rattle.features.specs.Told.{placed}
@@ -11,6 +12,11 @@ use Rattle.features.specs.declared.places.Place.{Place}
 use Rattle.features.proofs.PlaceLaws.{instance-at}
 use Rattle.features.proofs.InsideLaws.{part-at}
 use Rattle.domains.specs.Lookups.{instanceOr}
+
+-- a refusal's number is not 0
+pub refused-some : (c : Capture) (i : ℕ) {m : ℕ} → instanceOf c 0 i ≡ refused m → m ≢ 0
+unfolding instanceOf
+refused-some c i e = unless-refused (instanceNumber c 0 i) _ e .1
 
 module _ (c : Capture) (i : ℕ) (a : List ℕ → Answer) where
   pub or-refused : {m : ℕ} → instanceOf c 0 i ≡ refused m → instanceOr c i a ≡ refused m

@@ -1,3 +1,6 @@
 pub mod LimitLaws
+pub mod FieldLaws
+pub mod NextLaws
+pub mod WriteLaws
 pub mod Theorems
 pub mod Cases

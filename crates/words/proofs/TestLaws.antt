@@ -32,7 +32,10 @@ pub or-either : (a b : Bool) → (a || b) ≡ true → (a ≡ true) ⊎ (b ≡ t
 or-either true b e = inl refl
 or-either false b e = inr e
 
--- a chain of `&&` fails by its first part, or by its second
+-- a chain of `&&`: a test that holds is passed over; it fails by its first part, or by its second
+pub and-skip : {a : Bool} (b : Bool) → a ≡ true → (a && b) ≡ b
+and-skip b e = rw e
+
 pub and-first : {a : Bool} (b : Bool) → a ≡ false → (a && b) ≡ false
 and-first b e = rw e
 
