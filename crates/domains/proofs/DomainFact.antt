@@ -1,13 +1,13 @@
 -- The theorems of Facts.antt on the lookup of a domain, its registers, and both over a capture. Assumes nothing.
 use Prim.Native.Nat.{ℕ, _≤_, _<_}
-use mathlib.Core.Path.{_≡_, sym, ap, _∙_}
+use mathlib.Core.Path.{_≡_, ap, _∙_}
 use mathlib.Core.Bool.{true, false, not}
 use mathlib.Core.List.{List, [], _∷_}
 use mathlib.Core.Logic.{inl, inr, ⊎-elim, _↔_, _≢_}
 use native.Mathlib.Omega.{arith}
-use borrow.Author.Tests.{lt-ltb, le-ltb, ltb-true, ltb-false, eq-eqb, eqb-true, not-true, not-false}
+use borrow.Author.Tests.{ltb-true, ltb-false, eq-eqb, eqb-true, not-true, not-false}
 use lib.Dec.{ltb, eqb}
-use Rattle.words.specs.Answers.{Answer, refused, gives, unless}
+use Rattle.words.specs.Answers.{refused, gives, unless}
 use Rattle.words.proofs.AnswerLaws.{unless-number, unless-gives, unless-passes, first-zero, first-none, earliest-stop, two-pass, two-zero, two-from}
 use Rattle.words.proofs.TestLaws.{as-must, or-neither, or-either, or-skip, or-second, fails-exactly, fails-else}
 use Rattle.words.proofs.Theorems.{exact-fact, unless-fact}
@@ -67,7 +67,7 @@ module _ (s : List ℕ) (n : ℕ) where
 
 -- ---- registers
 
-present-exactly : (flags r : ℕ) → (present flags r ≡ true) ↔ Present flags r
+pub present-exactly : (flags r : ℕ) → (present flags r ≡ true) ↔ Present flags r
 unfolding present
 present-exactly flags r = (
   λ e.

@@ -10,7 +10,7 @@ use lib.Arith.{lt-of-le-ne}
 use lib.Dec.{eqb, leb}
 use borrow.Author.Tests.{eqb-true, eqb-false, leb-true, leb-false}
 use Rattle.domains.specs.Chains.{parentOf}
-use Rattle.domains.specs.Facts.{ancestor, Sound, Root, IsChain}
+use Rattle.domains.specs.Facts.{ancestor, Root, IsChain}
 use Rattle.domains.proofs.DomainLaws.{inside}
 
 -- the number m is replaced by v

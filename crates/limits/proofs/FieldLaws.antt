@@ -15,7 +15,6 @@ use Rattle.words.proofs.TestLaws.{or-skip, or-take, or-second, or-neither, or-e
 use Rattle.domains.specs.Registers.{present}
 use Rattle.domains.specs.declared.headers.Header.{Header}
 use Rattle.limits.specs.Writes.{placeOf, widthOf, spanOf, aLimit, unwritable, refusalOf}
-use Rattle.limits.specs.declared.fields.Span.{Span}
 
 -- ---- the fields
 

@@ -3,4 +3,6 @@ pub mod FieldLaws
 pub mod NextLaws
 pub mod WriteLaws
 pub mod Theorems
+pub mod NextFact
+pub mod WriteFact
 pub mod Cases

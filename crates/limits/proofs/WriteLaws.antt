@@ -10,14 +10,14 @@ use lib.Dec.{eqb}
 use Rattle.words.specs.Answers.{refused, gives, numberIn}
 use Rattle.words.specs.Bytes.{stored}
 use Rattle.words.proofs.AnswerLaws.{unless-passes}
-use Rattle.features.specs.Discovery.{Capture, birOf, barOf, named}
+use Rattle.features.specs.Discovery.{Capture, birOf, barOf}
 use Rattle.features.specs.Places.{instancePart}
 use Rattle.features.specs.declared.places.Place.{Place}
 use Rattle.features.proofs.PlaceLaws.{InstancePlace}
 use Rattle.features.proofs.InsideLaws.{start-small}
 use Rattle.domains.specs.Registers.{registerPlace}
 use Rattle.domains.proofs.DomainLaws.{inside}
-use Rattle.limits.specs.Writes.{nextContent, nextOf, nextFor, writeNumber, limitPlace, barLeft, lowLeft, highLeft}
+use Rattle.limits.specs.Writes.{nextOf, nextFor, writeNumber, barLeft, lowLeft, highLeft}
 use Rattle.limits.proofs.FieldLaws.{limit-small}
 use Rattle.limits.proofs.NextLaws.{given-by, permitted}
 

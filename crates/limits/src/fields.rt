@@ -1,20 +1,19 @@
 // The four fields of a limit by their numbers: 0 PWR_LIM, 1 TIME_WINDOW, 2 PWR_LIM_EN, 3 LOCK; and what refuses a write of one.
 ghost use mathlib.Core.Path.{_≡_};
-ghost use mathlib.Core.Bool.{not, _||_};
 ghost use Rattle.limits.specs.Writes.{spanOf, aLimit, unwritable, refusalOf};
 use domains::headers::Header;
 use domains::registers::present;
 use words::fields::field;
 
 // Where a field stands: its lowest bit, its bits, and the first number that is too wide for it.
-pub struct Span {
+pub(crate) struct Span {
     pub at: u32,
     pub width: u32,
     pub room: u64,
 }
 
 // The span of a field; a field that is none of the four has no bits.
-pub fn span_of(which: u32) -> Span
+pub(crate) fn span_of(which: u32) -> Span
     ensures answer { λ r. ⌜ r ≡ spanOf which ⌝ }
 {
     match which {
@@ -73,7 +72,7 @@ fn unwritable(kind: u64, limit: u32, which: u32) -> bool
 }
 
 // 26, 27, 17, 18 of a write, where the limit's register holds x; 0 where it is permitted.
-pub fn refusal(h: Header, limit: u32, which: u32, value: u64, x: u64) -> u8
+pub(crate) fn refusal(h: Header, limit: u32, which: u32, value: u64, x: u64) -> u8
     ensures answer { λ r. ⌜ r ≡ refusalOf h limit which value x ⌝ }
 {
     let known = a_limit(limit);
