@@ -1,6 +1,6 @@
 -- The theorems of Facts.antt on the lookup of a domain, its registers, and both over a capture. Assumes nothing.
 use Prim.Native.Nat.{ℕ, _≤_, _<_}
-use mathlib.Core.Path.{_≡_, ap, _∙_}
+use mathlib.Core.Path.{_≡_, refl, ap, _∙_}
 use mathlib.Core.Bool.{true, false, not}
 use mathlib.Core.List.{List, [], _∷_}
 use mathlib.Core.Logic.{inl, inr, ⊎-elim, _↔_, _≢_}
@@ -9,16 +9,24 @@ use borrow.Author.Tests.{ltb-true, ltb-false, eq-eqb, eqb-true, not-true, not-fa
 use lib.Dec.{ltb, eqb}
 use Rattle.words.specs.Answers.{refused, gives, unless}
 use Rattle.words.proofs.AnswerLaws.{unless-number, unless-gives, unless-passes, first-zero, first-none, earliest-stop, two-pass, two-zero, two-from}
-use Rattle.words.proofs.TestLaws.{as-must, or-neither, or-either, or-skip, or-second, fails-exactly, fails-else}
+use Rattle.words.specs.Tables.{fields}
+use Rattle.words.proofs.TableLaws.{fields-whole}
+use Rattle.words.proofs.TestLaws.{or-neither, or-either, or-second, fails-exactly, fails-else}
 use Rattle.words.proofs.Theorems.{exact-fact, unless-fact}
 use Rattle.features.specs.Discovery.{Capture}
 use Rattle.features.specs.Places.{instanceNumber}
-use Rattle.domains.specs.Domains.{headerIn, missing, unused, wrong, unsound, domainNumber, domainOf}
+use Rattle.domains.specs.Domains.{widths, headerOf, headerIn, missing, unused, wrong, unsound, domainNumber, domainOf}
 use Rattle.domains.specs.Registers.{present, registerAt, absent, contentNumber, contentOf}
 use Rattle.domains.specs.Lookups.{domainFor, contentFor, chainFor}
-use Rattle.domains.specs.Facts.{There, One, DomainFact, Present, RegisterFact, CaptureFact}
-use Rattle.domains.proofs.DomainLaws.{block-there, there, number-low}
+use Rattle.domains.specs.Facts.{HeaderFact, There, One, DomainFact, Present, RegisterFact, CaptureFact}
+use Rattle.domains.proofs.DomainLaws.{none-wrong, block-there, there, number-low}
 use Rattle.domains.proofs.RegisterLaws.{present-0, present-1, present-9, absent-17, absent-26, absent-none}
+
+-- ---- the header
+
+pub header-fact : (x : ℕ) → HeaderFact x
+unfolding headerOf fields
+header-fact x = record { table = refl; back = λ h. fields-whole widths x 0 h (omega arith) }
 
 -- ---- the lookup
 
@@ -37,7 +45,7 @@ module _ (s : List ℕ) (n : ℕ) where
   unfolding unsound wrong
   sound-exactly = (
     λ e. let f = or-neither (not (eqb (headerIn s n .version) 1)) _ e in (eqb-true _ _ (not-false _ (f .0)), eqb-true _ _ (not-false _ (f .1))),
-    λ o. or-skip _ (as-must (o .0)) ∙ as-must (o .1),
+    λ o. none-wrong (headerIn s n) (o .0) (o .1),
   )
 
   pub domain-fact : DomainFact s n

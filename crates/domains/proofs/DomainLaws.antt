@@ -1,16 +1,16 @@
 -- The lookup of a domain, stage by stage, and what its answer tells. Assumes nothing.
 use Prim.Native.Nat.{ℕ, _+_, _≤_, _<_}
 use mathlib.Core.Path.{_≡_, refl, sym, ap, _∙_}
-use mathlib.Core.Bool.{Bool, true, false, cond}
+use mathlib.Core.Bool.{Bool, true, false, not, cond}
 use mathlib.Core.List.{List, [], _∷_}
 use mathlib.Core.Logic.{_≢_}
 use native.Mathlib.Omega.{arith}
 use borrow.Author.Tests.{lt-ltb, le-ltb, ltb-false}
-use lib.Dec.{ltb}
+use lib.Dec.{ltb, eqb}
 use lib.ListN.{length, getD}
 use Rattle.words.specs.Answers.{refused, gives, unless, first}
 use Rattle.words.proofs.AnswerLaws.{unless-number, unless-gives, unless-refused, first-skip, first-take, first-zero, first-upto}
-use Rattle.words.proofs.TestLaws.{or-skip, or-take, or-second, or-neither}
+use Rattle.words.proofs.TestLaws.{as-must, not-as-must, or-skip, or-take, or-second, or-neither}
 use Rattle.domains.specs.Domains.{values, placeOf, headerIn, missing, unused, wrong, unsound, domainNumber, domainOf}
 use Rattle.domains.specs.declared.headers.Header.{Header}
 
@@ -34,6 +34,21 @@ staged-last false n xs h = refl
 pub values-once : (g h : Header) → values g ≡ values h → g ≡ h
 values-once g h e =
     ap (λ (l : List ℕ). record { version = getD l 0 0; kind = getD l 1 0; size = getD l 2 0; parent = getD l 3 0; flags = getD l 4 0; reserved48 = getD l 5 0 }) e
+
+-- ---- version and SIZE
+
+module _ (h : Header) where
+  pub wrong-version : h .version ≢ 1 → wrong h ≡ true
+  unfolding wrong
+  wrong-version e = or-take _ (not-as-must e)
+
+  pub wrong-size : h .size ≢ 1 → wrong h ≡ true
+  unfolding wrong
+  wrong-size e = or-second (not (eqb (h .version) 1)) (not-as-must e)
+
+  pub none-wrong : h .version ≡ 1 → h .size ≡ 1 → wrong h ≡ false
+  unfolding wrong
+  none-wrong v e = or-skip _ (as-must v) ∙ as-must e
 
 module _ (s : List ℕ) (n : ℕ) where
   -- ---- the block

@@ -6,3 +6,4 @@ pub mod ShortChains
 pub mod ChainFact
 pub mod DomainFact
 pub mod Told
+pub mod Cases

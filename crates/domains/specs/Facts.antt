@@ -1,21 +1,29 @@
 -- What is proved of domains, their registers and their parent chains, for the bytes of every instance and for every capture. Each is to be
 -- read without its proof; the proofs stand under the same names with hyphens: proofs/DomainFact.antt, proofs/ChainFact.antt, proofs/Told.antt.
 -- Assumes nothing.
-use Prim.Native.Nat.{ℕ, zero, suc, _+_, _*_, _≤_, _<_}
+use Prim.Native.Nat.{ℕ, zero, suc, _+_, _*_, _^_, _≤_, _<_}
 use mathlib.Core.Path.{_≡_}
 use mathlib.Core.List.{List, [], _∷_}
 use mathlib.Core.Logic.{_⊎_, _↔_, _≢_}
 use lib.ListN.{length}
 use Rattle.words.specs.Answers.{Answer, refused, gives}
 use Rattle.words.specs.Fields.{bit}
+use Rattle.words.specs.Tables.{fields, withFields}
 use Rattle.features.specs.Discovery.{Capture}
 use Rattle.features.specs.Places.{instanceNumber, instancePart}
-use Rattle.domains.specs.Domains.{headerIn, values, domainNumber, domainOf}
+use Rattle.domains.specs.Domains.{widths, headerOf, headerIn, values, domainNumber, domainOf}
 use Rattle.domains.specs.Registers.{registerAt, contentOf}
 use Rattle.domains.specs.Chains.{parentOf, chainOf}
 use Rattle.domains.specs.Lookups.{instanceOr, domainFor, contentFor, chainFor}
 use Rattle.domains.specs.Told.{told}
 use Rattle.domains.specs.declared.headers.Known.{Known}
+
+-- ---- the header
+
+-- The header's numbers are the fields of the table of widths, and nothing of the register is lost: they give its 64 bits back.
+pub record HeaderFact (x : ℕ) : Type 0 where
+  pub table : values (headerOf x) ≡ fields 0 widths x
+  pub back : x < 2 ^ 64 → withFields 0 widths 0 (values (headerOf x)) ≡ x
 
 -- ---- the lookup of a domain
 

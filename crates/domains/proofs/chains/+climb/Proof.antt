@@ -63,7 +63,7 @@ climb-sub-t8 : (t : ℕ) → climb-lts.Need-sub-t8 (
   climb-below t,
   climb.Post,
 ) (climb-at t) climb.Post
-climb-sub-t8 t c = c .before .before .before .before .before .before .pre .1
+climb-sub-t8 t c = omega (arith, c .before .before .before .before .before .before .pre .1)
 
 -- the domain's answer where it is known
 climb-answer : (t : ℕ) (c : climb-lts.After-known-told (

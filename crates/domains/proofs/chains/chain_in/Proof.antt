@@ -1,6 +1,8 @@
 -- `domains::chains::chain_in` meets its contract: the domain's refusal, or the climb from it. Assumes nothing.
-use mathlib.Core.Path.{sym, ap, _∙_}
+use mathlib.Core.Path.{_≡_, sym, ap, _∙_}
 use Rattle.words.specs.Answers.{refused, numberIn}
+use Rattle.features.specs.Told.{valued}
+use Rattle.domains.specs.Chains.{climbFrom}
 use Rattle.domains.specs.Told.{told}
 use Rattle.domains.proofs.ChainLaws.{chain-begins, chain-refused}
 use borrow.Author.Needs.{needs}
@@ -28,7 +30,11 @@ climb-requires : tie.Need-climb-requires
 climb-requires c κs = search needs
 
 returns-2 : tie.Need-returns-2
-returns-2 c = c .climb .ensures ∙ sym (chain-begins _ _ _ (sym (c .before .before .before .domain-in .ensures) ∙ ap told (c .before .enum-told .given .1)))
+returns-2 c =
+    let d = c .before .before .before in
+    let a = d .before .before .args in
+    let e : valued (c .climb .result) ≡ climbFrom (a .s .now) 255 (a .n) = c .climb .ensures in
+    e ∙ sym (chain-begins (a .s .now) (a .n) _ (sym (d .domain-in .ensures) ∙ ap told (c .before .enum-told .given .1)))
 
 pub chain-in-spec : {M : Type 1} → statement M
 chain-in-spec =

@@ -1,5 +1,5 @@
 -- `domains::lookups::domain` meets its contract: the instance's refusal, or what is said of its bytes. Assumes nothing.
-use mathlib.Core.Path.{sym, ap, _∙_}
+use mathlib.Core.Path.{_≡_, sym, ap, _∙_}
 use mathlib.Core.List.{List}
 use Prim.Native.Nat.{ℕ}
 use Rattle.words.specs.Answers.{Answer, refused, numberIn}
@@ -7,6 +7,7 @@ use Rattle.features.specs.Discovery.{Capture, captured}
 use Rattle.features.specs.Told as features
 use Rattle.domains.specs.Domains.{domainOf}
 use Rattle.domains.specs.Lookups.{domainFor}
+use Rattle.domains.specs.Told.{told}
 use Rattle.domains.proofs.LookupLaws.{or-refused, or-found}
 use borrow.Author.Needs.{needs}
 use Rattle.domains.proofs.lookups.domain.Statement.{statement}
@@ -48,7 +49,8 @@ returns-2 : tie.Need-returns-2
 unfolding domainFor
 returns-2 c =
     let d = c .before .before .before .before .before in
-    c .domain-in .ensures ∙ or-found (capture d) _ (asked d) (sym (d .instance-place .ensures) ∙ ap features.told (c .before .before .before .found .given .1)) (c .before .part-of .ensures)
+    let e : told (c .domain-in .result) ≡ asked d (c .before .part-of .result .now) = c .domain-in .ensures in
+    e ∙ or-found (capture d) _ (asked d) (sym (d .instance-place .ensures) ∙ ap features.told (c .before .before .before .found .given .1)) (c .before .part-of .ensures)
 
 pub domain-spec : {M : Type 1} → statement M
 domain-spec =

@@ -1,5 +1,5 @@
 -- `domains::lookups::register` meets its contract: the instance's refusal, or what is said of its bytes. Assumes nothing.
-use mathlib.Core.Path.{sym, ap, _∙_}
+use mathlib.Core.Path.{_≡_, sym, ap, _∙_}
 use mathlib.Core.List.{List}
 use Prim.Native.Nat.{ℕ}
 use Rattle.words.specs.Answers.{Answer, refused, numberIn}
@@ -48,7 +48,8 @@ returns-2 : tie.Need-returns-2
 unfolding contentFor
 returns-2 c =
     let d = c .before .before .before .before .before in
-    c .register-in .ensures ∙ or-found (capture d) _ (asked d) (sym (d .instance-place .ensures) ∙ ap features.told (c .before .before .before .found .given .1)) (c .before .part-of .ensures)
+    let e : features.valued (c .register-in .result) ≡ asked d (c .before .part-of .result .now) = c .register-in .ensures in
+    e ∙ or-found (capture d) _ (asked d) (sym (d .instance-place .ensures) ∙ ap features.told (c .before .before .before .found .given .1)) (c .before .part-of .ensures)
 
 pub register-spec : {M : Type 1} → statement M
 register-spec =

@@ -62,7 +62,9 @@ returns-3 : tie.Need-returns-3
 unfolding registerAt
 returns-3 c =
     let k = c .before .before .before .before in
-    ap (λ (x : ℕ). gives (x ∷ [])) (c .u64-at .ensures)
+    let a = k .before .before .before .before .before .args in
+    let e : c .u64-at .result ≡ registerAt (a .s .now) (a .n) (a .r) = c .u64-at .ensures in
+    ap (λ (x : ℕ). gives (x ∷ [])) e
     ∙ sym (content-of _ _ _ (answer k) (absent-none _ _ (c .before .before .before .if1 .left) (sym (c .before .before .present .ensures) ∙ c .before .if2 .taken)))
 
 returns-4 : tie.Need-returns-4
