@@ -1,0 +1,127 @@
+-- The records of specs/Unique: where a contract is an equation two results are equal at once, and where it says what an enum tells, since
+-- that is injective. Assumes nothing.
+use mathlib.Core.Path.{sym, _∙_}
+use Rattle.vsec.proofs.Theorems as vsec
+use Rattle.entries.proofs.Theorems as entries
+use Rattle.features.proofs.Told as features
+use Rattle.listing.proofs.Told as listing
+use Rattle.windows.proofs.Theorems as windows
+use Rattle.domains.proofs.Told as domains
+use Rattle.energy.proofs.Theorems as energy
+use Rattle.stamp.specs.Unique.{WordsUnique, VsecUnique, EntriesUnique, FeaturesUnique, ListingUnique, WindowsUnique, DomainsUnique, LimitsUnique, EnergyUnique}
+
+pub words-unique : WordsUnique
+words-unique =
+    record {
+      u8-at = λ κs a x y s t p q. p ∙ sym q;
+      u16-at = λ κs a x y s t p q. p ∙ sym q;
+      u32-at = λ κs a x y s t p q. p ∙ sym q;
+      u64-at = λ κs a x y s t p q. p ∙ sym q;
+      store-u8 = λ κs a x y s t p q. p ∙ sym q;
+      store-u16 = λ κs a x y s t p q. p ∙ sym q;
+      store-u32 = λ κs a x y s t p q. p ∙ sym q;
+      store-u64 = λ κs a x y s t p q. p ∙ sym q;
+      field = λ κs a x y s t p q. p ∙ sym q;
+      with-field = λ κs a x y s t p q. p ∙ sym q;
+    }
+
+pub vsec-unique : VsecUnique
+vsec-unique =
+    record {
+      walk = λ κs a x y s t p q. vsec.walked-once x y (p ∙ sym q);
+      vsec-at = λ κs a x y s t p q. p ∙ sym q;
+      read-call = λ κs a x y s t p q. vsec.decoded-once x y (p ∙ sym q);
+      write-call-kept = λ κs a x y s t p q. p .1 ∙ sym (q .1);
+      write-call = λ κs a x y s t p q. p .0 ∙ sym (q .0);
+    }
+
+pub entries-unique : EntriesUnique
+entries-unique =
+    record {
+      entry-at = λ κs a x y s t p q. p ∙ sym q;
+      read-call = λ κs a x y s t p q. entries.decoded-once x y (p ∙ sym q);
+      write-call-kept = λ κs a x y s t p q. p .1 ∙ sym (q .1);
+      write-call = λ κs a x y s t p q. p .0 ∙ sym (q .0);
+      bank-in = λ κs a x y s t p q. p ∙ sym q;
+      empty = λ κs a x y s t p q. p ∙ sym q;
+      fault = λ κs a x y s t p q. p ∙ sym q;
+      faults = λ κs a x y s t p q. p ∙ sym q;
+    }
+
+pub features-unique : FeaturesUnique
+features-unique =
+    record {
+      discover = λ κs a x y s t p q. features.told-once x y (p ∙ sym q);
+      feature = λ κs a x y s t p q. features.told-once x y (p ∙ sym q);
+      instance-place = λ κs a x y s t p q. features.told-once x y (p ∙ sym q);
+      instance = λ κs a x y s t p q. p ∙ sym q;
+      instance-number = λ κs a x y s t p q. p ∙ sym q;
+      number-of = λ κs a x y s t p q. p ∙ sym q;
+      bar-of = λ κs a x y s t p q. p ∙ sym q;
+      part-of = λ κs a x y s t p q. p ∙ sym q;
+      register-place = λ κs a x y s t p q. features.told-once x y (p ∙ sym q);
+      register = λ κs a x y s t p q. features.valued-once x y (p ∙ sym q);
+      valid-count = λ κs a x y s t p q. features.valued-once x y (p ∙ sym q);
+      valid-in = λ κs a x y s t p q. p ∙ sym q;
+    }
+
+pub listing-unique : ListingUnique
+listing-unique =
+    record {
+      layout-of = λ κs a x y s t p q. listing.laid-once x y (p ∙ sym q);
+      config-in = λ κs a x y s t p q. p ∙ sym q;
+      low-in = λ κs a x y s t p q. p ∙ sym q;
+      high-in = λ κs a x y s t p q. p ∙ sym q;
+      listing-of = λ κs a x y s t p q. listing.listed-once x y (p ∙ sym q);
+      bar-in = λ κs a x y s t p q. p ∙ sym q;
+      line-of = λ κs a x y s t p q. listing.said-once x y (p ∙ sym q);
+    }
+
+pub windows-unique : WindowsUnique
+windows-unique =
+    record {
+      window-code = λ κs a x y s t p q. windows.told-once x y (p ∙ sym q);
+      quarters = λ κs a x y s t p q. p ∙ sym q;
+      read-call = λ κs a x y s t p q. p ∙ sym q;
+      write-call = λ κs a x y s t p q. windows.written-once x y (p ∙ sym q);
+    }
+
+pub domains-unique : DomainsUnique
+domains-unique =
+    record {
+      read-call = λ κs a x y s t p q. p ∙ sym q;
+      number-of = λ κs a x y s t p q. p ∙ sym q;
+      domain-in = λ κs a x y s t p q. domains.told-once x y (p ∙ sym q);
+      present = λ κs a x y s t p q. p ∙ sym q;
+      register-in = λ κs a x y s t p q. features.valued-once x y (p ∙ sym q);
+      chain-in = λ κs a x y s t p q. features.valued-once x y (p ∙ sym q);
+      domain = λ κs a x y s t p q. domains.told-once x y (p ∙ sym q);
+      register = λ κs a x y s t p q. features.valued-once x y (p ∙ sym q);
+      chain = λ κs a x y s t p q. features.valued-once x y (p ∙ sym q);
+    }
+
+pub limits-unique : LimitsUnique
+limits-unique =
+    record {
+      read-call = λ κs a x y s t p q. p ∙ sym q;
+      limit-write = λ κs a x y s t p q. windows.written-once x y (p ∙ sym q);
+      next-in = λ κs a x y s t p q. features.valued-once x y (p ∙ sym q);
+      next = λ κs a x y s t p q. features.valued-once x y (p ∙ sym q);
+      write-write-low = λ κs a x y s t p q. p .1 .0 ∙ sym (q .1 .0);
+      write-write-high = λ κs a x y s t p q. p .1 .1 ∙ sym (q .1 .1);
+      write-write = λ κs a x y s t p q. p .0 ∙ sym (q .0);
+    }
+
+pub energy-unique : EnergyUnique
+energy-unique =
+    record {
+      all-closed = λ κs a x y s t p q. p ∙ sym q;
+      call-on = λ κs a x y s t p q. energy.one-hall-after _ _ _ x y (p .0) (p .1) (q .0) (q .1);
+      open-call = λ κs a x y s t p q. energy.one-hall-after _ _ _ x y (p .0) (p .1) (q .0) (q .1);
+      read-call = λ κs a x y s t p q. energy.one-hall-after _ _ _ x y (p .0) (p .1) (q .0) (q .1);
+      resume = λ κs a x y s t p q. energy.one-hall-after _ _ _ x y (p .0) (p .1) (q .0) (q .1);
+      close-call = λ κs a x y s t p q. energy.one-hall-after _ _ _ x y (p .0) (p .1) (q .0) (q .1);
+      total = λ κs a x y s t p q. energy.told-once x y (p ∙ sym q);
+      hall-total = λ κs a x y s t p q. energy.told-once x y (p ∙ sym q);
+      take = λ κs a x y s t p q. energy.one-after _ _ x y (p .0) (p .1) (q .0) (q .1);
+    }

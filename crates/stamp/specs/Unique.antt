@@ -1,0 +1,171 @@
+-- Uniqueness (document 01, "What the stamp certifies"): of every public call, any two results that its contract allows are equal. The
+-- contracts themselves are named here (`Post` of each function), not copies of them. There is no exception.
+--   Only P        the result is fixed: for all lifetimes κs and arguments a, and whatever the parameters are at exit
+--   Fixes out P   what `out` takes of the result and of the parameters at exit is fixed: the bytes of a part that is handed back, and what
+--                 was lent `&mut` as it is at exit (`s .0` is the first parameter at exit, `s .1 .0` the second, ..)
+-- One record for each crate, one field for each public call.
+-- Assumes nothing.
+use mathlib.Core.Path.{_≡_}
+use denote.Ref.{now}
+use Rattle.words.proofs.bytes.u8_at.Reads as words-u8-at
+use Rattle.words.proofs.bytes.u16_at.Reads as words-u16-at
+use Rattle.words.proofs.bytes.u32_at.Reads as words-u32-at
+use Rattle.words.proofs.bytes.u64_at.Reads as words-u64-at
+use Rattle.words.proofs.bytes.store_u8.Reads as words-store-u8
+use Rattle.words.proofs.bytes.store_u16.Reads as words-store-u16
+use Rattle.words.proofs.bytes.store_u32.Reads as words-store-u32
+use Rattle.words.proofs.bytes.store_u64.Reads as words-store-u64
+use Rattle.words.proofs.fields.field.Reads as words-field
+use Rattle.words.proofs.fields.with_field.Reads as words-with-field
+use Rattle.vsec.proofs.walk.walk.Reads as vsec-walk
+use Rattle.vsec.proofs.structure.vsec_at.Reads as vsec-vsec-at
+use Rattle.vsec.proofs.structure.read.Reads as vsec-read
+use Rattle.vsec.proofs.structure.write.Reads as vsec-write
+use Rattle.entries.proofs.entry.entry_at.Reads as entries-entry-at
+use Rattle.entries.proofs.entry.read.Reads as entries-read
+use Rattle.entries.proofs.entry.write.Reads as entries-write
+use Rattle.entries.proofs.faults.bank_in.Reads as entries-bank-in
+use Rattle.entries.proofs.faults.empty.Reads as entries-empty
+use Rattle.entries.proofs.faults.fault.Reads as entries-fault
+use Rattle.entries.proofs.faults.faults.Reads as entries-faults
+use Rattle.features.proofs.discovery.discover.Reads as features-discover
+use Rattle.features.proofs.instances.feature.Reads as features-feature
+use Rattle.features.proofs.instances.instance_place.Reads as features-instance-place
+use Rattle.features.proofs.instances.instance.Reads as features-instance
+use Rattle.features.proofs.instances.instance_number.Reads as features-instance-number
+use Rattle.features.proofs.places.number_of.Reads as features-number-of
+use Rattle.features.proofs.places.bar_of.Reads as features-bar-of
+use Rattle.features.proofs.places.part_of.Reads as features-part-of
+use Rattle.features.proofs.registers.register_place.Reads as features-register-place
+use Rattle.features.proofs.registers.register.Reads as features-register
+use Rattle.features.proofs.valid.valid_count.Reads as features-valid-count
+use Rattle.features.proofs.valid.valid_in.Reads as features-valid-in
+use Rattle.listing.proofs.layout.layout_of.Reads as listing-layout-of
+use Rattle.listing.proofs.layout.config_in.Reads as listing-config-in
+use Rattle.listing.proofs.layout.low_in.Reads as listing-low-in
+use Rattle.listing.proofs.layout.high_in.Reads as listing-high-in
+use Rattle.listing.proofs.lines.listing_of.Reads as listing-listing-of
+use Rattle.listing.proofs.lines.bar_in.Reads as listing-bar-in
+use Rattle.listing.proofs.lines.line_of.Reads as listing-line-of
+use Rattle.windows.proofs.codes.window_code.Reads as windows-window-code
+use Rattle.windows.proofs.codes.quarters.Reads as windows-quarters
+use Rattle.windows.proofs.units.read.Reads as windows-read
+use Rattle.windows.proofs.units.write.Reads as windows-write
+use Rattle.domains.proofs.headers.read.Reads as domains-read
+use Rattle.domains.proofs.headers.number_of.Reads as domains-number-of
+use Rattle.domains.proofs.headers.domain_in.Reads as domains-domain-in
+use Rattle.domains.proofs.registers.present.Reads as domains-present
+use Rattle.domains.proofs.registers.register_in.Reads as domains-register-in
+use Rattle.domains.proofs.chains.chain_in.Reads as domains-chain-in
+use Rattle.domains.proofs.lookups.domain.Reads as domains-domain
+use Rattle.domains.proofs.lookups.register.Reads as domains-register
+use Rattle.domains.proofs.lookups.chain.Reads as domains-chain
+use Rattle.limits.proofs.limit.read.Reads as limits-read
+use Rattle.limits.proofs.limit.write.Reads as limits-limit-write
+use Rattle.limits.proofs.next.next_in.Reads as limits-next-in
+use Rattle.limits.proofs.next.next.Reads as limits-next
+use Rattle.limits.proofs.write.write.Reads as limits-write-write
+use Rattle.energy.proofs.hall.all_closed.Reads as energy-all-closed
+use Rattle.energy.proofs.hall.call_on.Reads as energy-call-on
+use Rattle.energy.proofs.hall.open.Reads as energy-open
+use Rattle.energy.proofs.hall.read.Reads as energy-read
+use Rattle.energy.proofs.hall.resume.Reads as energy-resume
+use Rattle.energy.proofs.hall.close.Reads as energy-close
+use Rattle.energy.proofs.hall.total.Reads as energy-total
+use Rattle.energy.proofs.hall.hall_total.Reads as energy-hall-total
+use Rattle.energy.proofs.channels.Channel.take.Reads as energy-take
+
+abbrev pub Fixes : {L : Type 0} {A R E B : L → Type 0} → ((κs : L) → R κs → E κs → B κs) → ((κs : L) → A κs → R κs → E κs → Type 0) → Type 0
+Fixes {L} {A} {R} {E} out P = (κs : L) (a : A κs) (x y : R κs) (s t : E κs) → P κs a x s → P κs a y t → out κs x s ≡ out κs y t
+
+abbrev pub Only : {L : Type 0} {A R E : L → Type 0} → ((κs : L) → A κs → R κs → E κs → Type 0) → Type 0
+Only {L} {A} {R} {E} P = Fixes (λ κs x s. x) P
+
+pub record WordsUnique : Type 0 where
+  pub u8-at : Only words-u8-at.Post
+  pub u16-at : Only words-u16-at.Post
+  pub u32-at : Only words-u32-at.Post
+  pub u64-at : Only words-u64-at.Post
+  pub store-u8 : Fixes (λ κs x s. now (s .0)) words-store-u8.Post
+  pub store-u16 : Fixes (λ κs x s. now (s .0)) words-store-u16.Post
+  pub store-u32 : Fixes (λ κs x s. now (s .0)) words-store-u32.Post
+  pub store-u64 : Fixes (λ κs x s. now (s .0)) words-store-u64.Post
+  pub field : Only words-field.Post
+  pub with-field : Only words-with-field.Post
+
+pub record VsecUnique : Type 0 where
+  pub walk : Only vsec-walk.Post
+  pub vsec-at : Only vsec-vsec-at.Post
+  pub read-call : Only vsec-read.Post
+  pub write-call : Only vsec-write.Post
+  pub write-call-kept : Fixes (λ κs x s. now (s .0)) vsec-write.Post
+
+pub record EntriesUnique : Type 0 where
+  pub entry-at : Only entries-entry-at.Post
+  pub read-call : Only entries-read.Post
+  pub write-call : Only entries-write.Post
+  pub write-call-kept : Fixes (λ κs x s. now (s .0)) entries-write.Post
+  pub bank-in : Only entries-bank-in.Post
+  pub empty : Only entries-empty.Post
+  pub fault : Only entries-fault.Post
+  pub faults : Only entries-faults.Post
+
+pub record FeaturesUnique : Type 0 where
+  pub discover : Only features-discover.Post
+  pub feature : Only features-feature.Post
+  pub instance-place : Only features-instance-place.Post
+  pub instance : Fixes (λ κs x s. now x) features-instance.Post
+  pub instance-number : Only features-instance-number.Post
+  pub number-of : Only features-number-of.Post
+  pub bar-of : Fixes (λ κs x s. now x) features-bar-of.Post
+  pub part-of : Fixes (λ κs x s. now x) features-part-of.Post
+  pub register-place : Only features-register-place.Post
+  pub register : Only features-register.Post
+  pub valid-count : Only features-valid-count.Post
+  pub valid-in : Only features-valid-in.Post
+
+pub record ListingUnique : Type 0 where
+  pub layout-of : Only listing-layout-of.Post
+  pub config-in : Fixes (λ κs x s. now x) listing-config-in.Post
+  pub low-in : Fixes (λ κs x s. now x) listing-low-in.Post
+  pub high-in : Fixes (λ κs x s. now x) listing-high-in.Post
+  pub listing-of : Only listing-listing-of.Post
+  pub bar-in : Fixes (λ κs x s. now x) listing-bar-in.Post
+  pub line-of : Only listing-line-of.Post
+
+pub record WindowsUnique : Type 0 where
+  pub window-code : Only windows-window-code.Post
+  pub quarters : Only windows-quarters.Post
+  pub read-call : Only windows-read.Post
+  pub write-call : Only windows-write.Post
+
+pub record DomainsUnique : Type 0 where
+  pub read-call : Only domains-read.Post
+  pub number-of : Only domains-number-of.Post
+  pub domain-in : Only domains-domain-in.Post
+  pub present : Only domains-present.Post
+  pub register-in : Only domains-register-in.Post
+  pub chain-in : Only domains-chain-in.Post
+  pub domain : Only domains-domain.Post
+  pub register : Only domains-register.Post
+  pub chain : Only domains-chain.Post
+
+pub record LimitsUnique : Type 0 where
+  pub read-call : Only limits-read.Post
+  pub limit-write : Only limits-limit-write.Post
+  pub next-in : Only limits-next-in.Post
+  pub next : Only limits-next.Post
+  pub write-write : Only limits-write-write.Post
+  pub write-write-low : Fixes (λ κs x s. now (s .1 .1 .0)) limits-write-write.Post
+  pub write-write-high : Fixes (λ κs x s. now (s .1 .1 .1 .1 .0)) limits-write-write.Post
+
+pub record EnergyUnique : Type 0 where
+  pub all-closed : Only energy-all-closed.Post
+  pub call-on : Only energy-call-on.Post
+  pub open-call : Only energy-open.Post
+  pub read-call : Only energy-read.Post
+  pub resume : Only energy-resume.Post
+  pub close-call : Only energy-close.Post
+  pub total : Only energy-total.Post
+  pub hall-total : Only energy-hall-total.Post
+  pub take : Only energy-take.Post
