@@ -4,3 +4,4 @@ pub mod InsideLaws
 pub mod DiscoveryFact
 pub mod LookupFact
 pub mod Told
+pub mod Changed

@@ -5,4 +5,5 @@ pub mod WriteLaws
 pub mod Theorems
 pub mod NextFact
 pub mod WriteFact
+pub mod ReadBack
 pub mod Cases

@@ -76,11 +76,11 @@ module _ (c : Capture) (i n limit which value : ℕ) where
   -- ---- a permitted write
 
   module _ (b : AllBytes (barOf c)) (z : writeNumber c i n limit which value ≡ 0) where
-    stages : (instanceNumber c 0 i ≡ 0) × (nextNumber part n limit which value ≡ 0)
+    pub stages : (instanceNumber c 0 i ≡ 0) × (nextNumber part n limit which value ≡ 0)
     stages = ⊎-elim (λ w. (w .0, w .1)) (λ w. absurd (w .1 (sym (number-is (w .2)) ∙ z))) answered
 
     -- the register lies inside the instance, and the instance inside the capture
-    in-part : registerPlace n (limit + 1) + 8 ≤ sizeFor c 0
+    pub in-part : registerPlace n (limit + 1) + 8 ≤ sizeFor c 0
     in-part =
         omega (
           arith,
@@ -89,7 +89,7 @@ module _ (c : Capture) (i n limit which value : ℕ) where
           length-take (sizeFor c 0) (drop (startFor c 0 i) (barOf c)),
         )
 
-    in-bar : startFor c 0 i + sizeFor c 0 ≤ length (barOf c)
+    pub in-bar : startFor c 0 i + sizeFor c 0 ≤ length (barOf c)
     in-bar = instance-inside c 0 i (stages .0)
 
     -- what the register held: the same number in the instance and in the capture
@@ -106,12 +106,12 @@ module _ (c : Capture) (i n limit which value : ℕ) where
     unfolding nextContent
     next-lt = with-lt (placeOf which) (widthOf which) (registerAt part n (limit + 1)) value 64 (fits which) held-lt
 
-    left-is : barLeft c i n limit which value ≡ stored (barOf c) (limitPlace c i n limit) 8 next
+    pub left-is : barLeft c i n limit which value ≡ stored (barOf c) (limitPlace c i n limit) 8 next
     unfolding barLeft
     left-is = rw (eq-eqb (writeNumber c i n limit which value) 0 z)
 
     -- and what it holds
-    holds : numberAt (barLeft c i n limit which value) (limitPlace c i n limit) 8 ≡ next
+    pub holds : numberAt (barLeft c i n limit which value) (limitPlace c i n limit) 8 ≡ next
     holds =
         ap (λ (s : List ℕ). numberAt s (limitPlace c i n limit) 8) left-is
         ∙ number-stored (barOf c) (limitPlace c i n limit) 8 next (omega (arith, in-part, in-bar))

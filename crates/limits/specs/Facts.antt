@@ -1,5 +1,6 @@
 -- What is proved of limits and of the write of one field, for every number, instance and capture. Each is to be read without its proof;
--- the proofs stand under the same names with hyphens: proofs/Theorems.antt, proofs/NextFact.antt, proofs/WriteFact.antt.
+-- the proofs stand under the same names with hyphens: proofs/Theorems.antt, proofs/NextFact.antt, proofs/WriteFact.antt,
+-- proofs/ReadBack.antt.
 -- Assumes nothing.
 use Prim.Native.Nat.{ℕ, _+_, _^_, _≤_, _<_}
 use mathlib.Core.Path.{_≡_}
@@ -10,10 +11,11 @@ use Rattle.words.specs.Answers.{refused, gives}
 use Rattle.words.specs.Bytes.{AllBytes, numberAt}
 use Rattle.words.specs.Facts.{WordTrips}
 use Rattle.words.specs.Fields.{field, bit}
-use Rattle.features.specs.Discovery.{Capture, birOf, barOf}
-use Rattle.features.specs.Places.{startFor, sizeFor}
+use Rattle.features.specs.Discovery.{Capture, captured, birOf, barOf}
+use Rattle.features.specs.Places.{startFor, sizeFor, instancePart}
 use Rattle.domains.specs.Domains.{headerIn, domainNumber}
 use Rattle.domains.specs.Facts.{Sound, Present}
+use Rattle.domains.specs.Lookups.{domainFor, contentFor}
 use Rattle.domains.specs.Registers.{registerAt}
 use Rattle.limits.specs.Limit.{widths, limitOf, values}
 use Rattle.limits.specs.Writes.{placeOf, widthOf, nextContent, nextOf, nextFor, writeNumber, limitPlace, barLeft, lowLeft, highLeft}
@@ -85,3 +87,13 @@ pub record Stored (c : Capture) (i n limit which value : ℕ) : Type 0 where
 -- (That the BAR capture is a list of bytes is what its type says.)
 abbrev pub WriteFact : Capture → ℕ → ℕ → ℕ → ℕ → ℕ → Type 0
 WriteFact c i n limit which value = AllBytes (barOf c) → writeNumber c i n limit which value ≡ 0 → Stored c i n limit which value
+
+-- Read back by the meter's own calls: the capture that a permitted write leaves is looked up afresh, the domain is found in it as before,
+-- and the limit's register is read as the next content.
+abbrev pub left : Capture → ℕ → ℕ → ℕ → ℕ → ℕ → Capture
+left c i n limit which value = captured (c .config) (c .lo) (lowLeft c i n limit which value) (c .hi) (highLeft c i n limit which value)
+
+abbrev pub ReadBack : Capture → ℕ → ℕ → ℕ → ℕ → ℕ → Type 0
+ReadBack c i n limit which value = AllBytes (barOf c) → writeNumber c i n limit which value ≡ 0
+    → (domainFor (left c i n limit which value) i n ≡ domainFor c i n)
+    × (contentFor (left c i n limit which value) i n (limit + 1) ≡ gives (nextContent (instancePart c 0 i) n limit which value ∷ []))

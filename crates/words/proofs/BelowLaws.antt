@@ -2,7 +2,7 @@
 use Prim.Native.Nat.{ℕ, zero, suc, _+_, _-_, _<_}
 use mathlib.Core.Bool.{Bool, true, false, _||_, or-true, or-false, false≢true}
 use mathlib.Core.Logic.{_⊎_, ⊎-elim, _≢_}
-use mathlib.Core.Path.{_≡_, refl, sym, ap, _∙_}
+use mathlib.Core.Path.{_≡_, refl, sym, ap, ap₂, _∙_}
 use borrow.Author.Tests.{leb-true, leb-false}
 use lib.Dec.{leb}
 use native.Mathlib.Nat.{not-suc-le-zero, eq-or-lt-of-le, le-of-suc-le-suc}
@@ -154,3 +154,22 @@ module _ (p : ℕ → Bool) where
       by : (t : Bool) → leb i j ≡ t → i ≡ j
       by true e = ⊎-elim (λ q. q) (λ l. absurd (not-before n k i j a b l)) (eq-or-lt-of-le (leb-true i j e))
       by false e = absurd (not-before n k j i b a (leb-false i j e))
+
+-- ---- tests that agree on the numbers searched: the searches agree
+
+pub any-same : (p q : ℕ → Bool) (n : ℕ) → ((k : ℕ) → k < n → p k ≡ q k) → anyBelow p n ≡ anyBelow q n
+unfolding anyBelow
+any-same p q zero f = refl
+any-same p q (suc n) f = ap₂ (λ (a b : Bool). a || b) (any-same p q n (λ k l. f k (omega arith))) (f n (omega arith))
+
+pub fault-same : (f g : ℕ → ℕ) (n : ℕ) → ((k : ℕ) → k < n → f k ≡ g k) → firstBelow f n ≡ firstBelow g n
+unfolding firstBelow
+fault-same f g zero e = refl
+fault-same f g (suc n) e = ap₂ orElse (fault-same f g n (λ k l. e k (omega arith))) (e n (omega arith))
+
+pub least-same : (p q : ℕ → Bool) (n : ℕ) → ((k : ℕ) → k < n → p k ≡ q k) → least p n 0 ≡ least q n 0
+least-same p q n f =
+    let l = is-least p n 0 in
+    let m : IsLeast q n 0 (least p n 0) =
+    record { starts = l .starts; ends = l .ends; fail = λ i a b. sym (f i (omega (arith, b, l .ends))) ∙ l .fail i a b; passes = λ h. sym (f _ (omega (arith, h))) ∙ l .passes h } in
+    least-once q n 0 (least p n 0) (least q n 0) m (is-least q n 0)
