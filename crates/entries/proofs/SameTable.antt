@@ -31,5 +31,5 @@ module _ (s z : List ℕ) (t n : ℕ) (bytes : (k : ℕ) → k < n → numberAt 
   faults-same long =
       fault-same (faultAt s t n) (faultAt z t n) n
       (λ k l.
-          ap (λ (b : Bank). cond (emptyBank b) 0 (first (tests s t n k b))) (bank-same k l)
-          ∙ ap (λ (ts : List (Bool × ℕ)). cond (emptyBank (bankIn z t k)) 0 (first ts)) (tests-same long k l (bankIn z t k)))
+      ap (λ (b : Bank). cond (emptyBank b) 0 (first (tests s t n k b))) (bank-same k l)
+      ∙ ap (λ (ts : List (Bool × ℕ)). cond (emptyBank (bankIn z t k)) 0 (first ts)) (tests-same long k l (bankIn z t k)))
