@@ -1,0 +1,130 @@
+// The RAPL domains of document 001's register layout example, in the bank of the sheet's first feature: socket, memory and platform.
+use crate::lines::content;
+use crate::lines::end;
+use crate::lines::hex;
+use crate::lines::number;
+use crate::lines::outcome;
+use crate::lines::refused;
+use crate::lines::text;
+use crate::lines::value;
+use domains::headers::Known;
+use domains::lookups;
+use words::bytes::store_u64;
+use words::bytes::u64_at;
+
+// Headers with the registers that the example lists, at 0, 0x80 and 0x100; 001's default units; the socket's energy status and limit
+// info. The platform is a root, the socket is under it and the memory under the socket.
+pub(crate) fn set_domains(bar: &mut [u8]) {
+    store_u64(bar, 6096, 0x0000_03AF_0201_0201);
+    store_u64(bar, 6104, 0xA383);
+    store_u64(bar, 6152, 0x1234_5678_FFFF_FFF0);
+    store_u64(bar, 6168, 0xFFFF_FFFF_FFFF_FFFF);
+    store_u64(bar, 6224, 0x0000_0387_0001_0401);
+    store_u64(bar, 6232, 0xA383);
+    store_u64(bar, 6352, 0x0000_078F_0201_0101);
+    store_u64(bar, 6360, 0xA383);
+}
+
+fn domain<'a>(config: &[u8], low: &'a [u8], high: &'a [u8], n: u64) {
+    number(b"domain ", n);
+    match lookups::domain(config, 0, low, 1, high, 0, n) {
+        Known::Domain(h) => {
+            number(b": type ", h.kind);
+            number(b", parent ", h.parent);
+            hex(b", FLAGS 0x", h.flags);
+            end();
+        }
+        Known::Refused(k) => refused(k),
+    }
+}
+
+// The instance has room for three.
+pub(crate) fn domains<'a>(config: &[u8], low: &'a [u8], high: &'a [u8]) {
+    domain(config, low, high, 0);
+    domain(config, low, high, 1);
+    domain(config, low, high, 2);
+    domain(config, low, high, 3);
+}
+
+fn register<'a>(config: &[u8], low: &'a [u8], high: &'a [u8], n: u64, r: u32) {
+    number(b"register ", r as u64);
+    number(b" of domain ", n);
+    content(lookups::register(config, 0, low, 1, high, 0, n, r));
+}
+
+// The socket's units, energy status and limit info; the memory has no second limit; no domain has a register 16.
+pub(crate) fn registers<'a>(config: &[u8], low: &'a [u8], high: &'a [u8]) {
+    register(config, low, high, 0, 1);
+    register(config, low, high, 0, 7);
+    register(config, low, high, 0, 9);
+    register(config, low, high, 1, 3);
+    register(config, low, high, 1, 16);
+}
+
+fn chain<'a>(config: &[u8], low: &'a [u8], high: &'a [u8], n: u64) {
+    number(b"steps to the root from domain ", n);
+    value(lookups::chain(config, 0, low, 1, high, 0, n));
+}
+
+pub(crate) fn chains<'a>(config: &[u8], low: &'a [u8], high: &'a [u8]) {
+    chain(config, low, high, 0);
+    chain(config, low, high, 1);
+    chain(config, low, high, 2);
+}
+
+fn field_name(which: u32) {
+    match which {
+        0 => text(b", PWR_LIM "),
+        1 => text(b", TIME_WINDOW "),
+        2 => text(b", PWR_LIM_EN "),
+        _ => text(b", LOCK "),
+    }
+}
+
+fn write(
+    config: &[u8],
+    low: &mut [u8],
+    high: &mut [u8],
+    n: u64,
+    limit: u32,
+    which: u32,
+    value: u64,
+) {
+    number(b"domain ", n);
+    number(b", limit ", limit as u64);
+    field_name(which);
+    number(b"", value);
+    outcome(limits::write::write(config, 0, low, 1, high, 0, n, limit, which, value));
+}
+
+// What both captures hold where the socket's first limit stands.
+fn held(low: &[u8], high: &[u8]) {
+    hex(b"  at 6112 BAR 0 holds 0x", u64_at(low, 6112));
+    hex(b", BAR 1 holds 0x", u64_at(high, 6112));
+    end();
+}
+
+// Document 01's three writes: PWR_LIM, TIME_WINDOW and PWR_LIM_EN of the socket's first limit.
+pub(crate) fn limits(config: &[u8], low: &mut [u8], high: &mut [u8]) {
+    write(config, low, high, 0, 1, 0, 1000);
+    write(config, low, high, 0, 1, 1, 0x6E);
+    write(config, low, high, 0, 1, 2, 1);
+    held(low, high);
+}
+
+// A number too wide, the window of a package's second limit, a second limit of the memory, a limit 3.
+pub(crate) fn refusals(config: &[u8], low: &mut [u8], high: &mut [u8]) {
+    write(config, low, high, 0, 1, 0, 262144);
+    write(config, low, high, 0, 2, 1, 0x6E);
+    write(config, low, high, 1, 2, 0, 1000);
+    write(config, low, high, 0, 3, 0, 1000);
+    held(low, high);
+}
+
+// Once LOCK is 1 no field can be written, LOCK neither.
+pub(crate) fn locked(config: &[u8], low: &mut [u8], high: &mut [u8]) {
+    write(config, low, high, 0, 1, 3, 1);
+    write(config, low, high, 0, 1, 0, 2000);
+    write(config, low, high, 0, 1, 3, 0);
+    held(low, high);
+}

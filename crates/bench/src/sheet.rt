@@ -1,0 +1,114 @@
+// The layout sheet of documents 000 and 001 as a capture: ten features, their banks and the places of their registers.
+use crate::lines::hex;
+use crate::lines::number;
+use crate::lines::place;
+use crate::lines::text;
+use crate::lines::value;
+use entries::entry::Entry;
+use features::discovery::discover;
+use features::instances::feature;
+use features::registers::register_place;
+use features::valid::valid_count;
+use words::bytes::store_u16;
+use words::bytes::store_u64;
+use words::bytes::u64_at;
+
+// Vendor word, and at 0x100 the VSEC structure: 10 entries of 2 words, tBIR 1, table at 2,000.
+pub(crate) fn set_config(config: &mut [u8]) {
+    store_u16(config, 0, 0x8086);
+    store_u64(config, 0x100, 0x0101_0042_0001_000B);
+    store_u64(config, 0x108, 0x0000_07D1_020A_0000);
+}
+
+fn set_entry(
+    bar: &mut [u8],
+    at: usize,
+    id: u64,
+    instances: u64,
+    words: u64,
+    offset: u64,
+    attribute: u64,
+) {
+    let e = Entry {
+        id: id,
+        instances: instances,
+        words: words,
+        offset: offset,
+        attribute: attribute,
+        reserved: 0,
+    };
+    let mut part = [0u8; 8];
+    entries::entry::write(&mut part, e);
+    store_u64(bar, at, u64_at(&part, 0));
+}
+
+// RAPL, PEM, PMAX, DRC, SST. (000 gives DRC no identifier; here it has the reserved 4.)
+fn set_first(bar: &mut [u8]) {
+    set_entry(bar, 2000, 0x00, 1, 96, 4, 1);
+    set_entry(bar, 2008, 0x01, 5, 6, 8, 1);
+    set_entry(bar, 2016, 0x03, 1, 16, 12, 0);
+    set_entry(bar, 2024, 0x04, 1, 8, 16, 1);
+    set_entry(bar, 2032, 0x05, 5, 182, 20, 1);
+}
+
+// UFS, CSR_ALL, CSR_COMPUTE, CSR_PKG_ROOT, MISC_REGS.
+fn set_others(bar: &mut [u8]) {
+    set_entry(bar, 2040, 0x02, 1, 8, 24, 1);
+    set_entry(bar, 2048, 0xFD, 5, 160, 28, 1);
+    set_entry(bar, 2056, 0xFE, 3, 40, 32, 1);
+    set_entry(bar, 2064, 0xFF, 1, 20, 36, 1);
+    set_entry(bar, 2072, 0x06, 3, 16, 40, 1);
+}
+
+// The sheet's table. Instances 1 and 3 of PEM read all ones: they are not valid.
+pub(crate) fn set_table(bar: &mut [u8]) {
+    set_first(bar);
+    set_others(bar);
+    store_u64(bar, 10216, 0xFFFF_FFFF_FFFF_FFFF);
+    store_u64(bar, 10264, 0xFFFF_FFFF_FFFF_FFFF);
+}
+
+// The same captures under three pairs of BAR numbers: tBIR 1 is one of them, is neither, and is beside a number above 5.
+pub(crate) fn discovery<'a>(config: &[u8], low: &'a [u8], high: &'a [u8]) {
+    text(b"table of the sheet, BARs 0 and 1");
+    place(discover(config, 0, low, 1, high));
+    text(b"table of the sheet, BARs 2 and 3");
+    place(discover(config, 2, low, 3, high));
+    text(b"table of the sheet, BARs 1 and 6");
+    place(discover(config, 1, low, 6, high));
+}
+
+fn bank<'a>(config: &[u8], low: &'a [u8], high: &'a [u8], id: u64) {
+    hex(b"feature 0x", id);
+    place(feature(config, 0, low, 1, high, id));
+}
+
+pub(crate) fn features<'a>(config: &[u8], low: &'a [u8], high: &'a [u8]) {
+    bank(config, low, high, 0x00);
+    bank(config, low, high, 0x01);
+    bank(config, low, high, 0x03);
+    bank(config, low, high, 0x05);
+    bank(config, low, high, 0xFD);
+    bank(config, low, high, 0x06);
+    bank(config, low, high, 0x80);
+    text(b"valid instances of feature 0x1");
+    value(valid_count(config, 0, low, 1, high, 0x01));
+}
+
+fn register<'a>(config: &[u8], low: &'a [u8], high: &'a [u8], id: u64, n: usize, offset: usize) {
+    hex(b"register of feature 0x", id);
+    number(b", instance ", n as u64);
+    hex(b", offset 0x", offset as u64);
+    place(register_place(config, 0, low, 1, high, id, n, offset));
+}
+
+// PMAX; CSR_ALL, whose first register is 0x110, so that its register 0x118 has the offset 8; an invalid instance of PEM, one that
+// there is not; an offset past an instance of 64 bytes, and one that is no multiple of 8.
+pub(crate) fn registers<'a>(config: &[u8], low: &'a [u8], high: &'a [u8]) {
+    register(config, low, high, 0x03, 0, 8);
+    register(config, low, high, 0xFD, 2, 8);
+    register(config, low, high, 0x01, 1, 0);
+    register(config, low, high, 0x01, 5, 0);
+    register(config, low, high, 0x03, 0, 64);
+    register(config, low, high, 0x03, 0, 12);
+}
