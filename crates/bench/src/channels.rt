@@ -4,10 +4,10 @@ use crate::lines::hex;
 use crate::lines::number;
 use crate::lines::refused;
 use crate::lines::text;
-use energy::calls::Answered;
-use energy::calls::Opening;
-use energy::calls::Reading;
-use energy::channels::Channel;
+use channel::calls::Answered;
+use channel::calls::Opening;
+use channel::calls::Reading;
+use channel::record::Channel;
 use energy::hall;
 
 fn answer(came: Answered) {

@@ -9,18 +9,18 @@ use lib.Dec.{ltb, eqb}
 use lib.ListN.{length, getD, take, length-replicate}
 use lib.Seq.{take-all}
 use Rattle.words.specs.Answers.{unless, gives, first}
-use Rattle.energy.specs.Channels.{closed, isOpen, rise, tests, refusalOf, values, taken, share}
+use Rattle.channel.specs.Channels.{closed, isOpen, rise, tests, refusalOf, values, taken, share}
 use Rattle.energy.specs.Hall.{allClosed, testsOn, answerOn, leavesOn, leavesAll, answersTo, shares, hallTotal}
 use Rattle.energy.specs.Account.{Event, calls, Entry, if-so, accepted, entries, Account, shut, running, entered, account, Rises, Fair, Supposed, isShut, sumOf, due, part, parts}
 use Rattle.energy.specs.Facts.{history, Demand3, HallDemand3}
-use Rattle.energy.specs.declared.calls.Opening.{Opening}
-use Rattle.energy.specs.declared.calls.Reading.{Reading}
-use Rattle.energy.specs.declared.calls.Call.{Call}
-use Rattle.energy.specs.declared.calls.Call.the-variants.{Open, Read, Resume, Close, Ask}
-use Rattle.energy.specs.declared.channels.Channel.{Channel}
-use Rattle.energy.proofs.ChannelLaws.{open-live, open-holds, open-if, share-closed}
+use Rattle.channel.specs.declared.calls.Opening.{Opening}
+use Rattle.channel.specs.declared.calls.Reading.{Reading}
+use Rattle.channel.specs.declared.calls.Call.{Call}
+use Rattle.channel.specs.declared.calls.Call.the-variants.{Open, Read, Resume, Close, Ask}
+use Rattle.channel.specs.declared.record.Channel.{Channel}
+use Rattle.channel.proofs.ChannelLaws.{open-live, open-holds, open-if, share-closed}
 use Rattle.energy.proofs.HallLaws.{shares-more}
-use Rattle.energy.proofs.Accepted.{opens-past, reads-past, resumes-past}
+use Rattle.channel.proofs.Accepted.{opens-past, reads-past, resumes-past}
 use Rattle.energy.proofs.Runs.{own-entered, passed-over, closed-at, length-leaves, length-run}
 
 -- ---- one channel and its account

@@ -9,7 +9,7 @@ use native.Mathlib.Decide.{ℕ-discrete as decide}
 use borrow.Author.Tests.{ne-eqb}
 use Rattle.words.specs.Fields.{field}
 use Rattle.words.specs.Answers.{Answer, first, gives}
-use Rattle.energy.specs.Channels.{inRange, isOpen, tests, values, taken}
+use Rattle.channel.specs.Channels.{inRange, isOpen, tests, values, taken}
 use Rattle.energy.specs.Hall.{allClosed, testsOn, answerOn, leavesOn, answersTo}
 use Rattle.energy.specs.Account.{calls, entries, account, shut, Supposed, due, parts}
 use Rattle.energy.specs.Facts.{history}

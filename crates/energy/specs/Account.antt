@@ -24,12 +24,12 @@ use mathlib.Core.Bool.{Bool, true, false, cond, _&&_}
 use mathlib.Core.List.{List, [], _∷_}
 use lib.Dec.{ltb, eqb}
 use Rattle.words.specs.Answers.{Answer, refused, gives, unless, first}
-use Rattle.energy.specs.Channels.{countOf}
+use Rattle.channel.specs.Channels.{countOf}
 use Rattle.energy.specs.Hall.{Named}
-use Rattle.energy.specs.declared.calls.Opening.{Opening}
-use Rattle.energy.specs.declared.calls.Reading.{Reading}
-use Rattle.energy.specs.declared.calls.Call.{Call}
-use Rattle.energy.specs.declared.calls.Call.the-variants.{Open, Read, Resume, Close, Ask}
+use Rattle.channel.specs.declared.calls.Opening.{Opening}
+use Rattle.channel.specs.declared.calls.Reading.{Reading}
+use Rattle.channel.specs.declared.calls.Call.{Call}
+use Rattle.channel.specs.declared.calls.Call.the-variants.{Open, Read, Resume, Close, Ask}
 
 -- ---- what the observer sees
 

@@ -13,7 +13,7 @@ use Rattle.words.specs.Answers.{Answer, refused, gives}
 use Rattle.energy.specs.Hall.{allClosed, answerOn, answersTo, leavesAll, hallTotal}
 use Rattle.energy.specs.Account.{Event, calls, shut, Supposed}
 use Rattle.energy.specs.Facts.{history}
-use Rattle.energy.specs.declared.calls.Call.the-variants.{Open, Read, Resume, Close, Ask}
+use Rattle.channel.specs.declared.calls.Call.the-variants.{Open, Read, Resume, Close, Ask}
 
 abbrev opens : (channel unit gap tick status whole : ℕ) → Event
 opens k u g t s w =

@@ -1,13 +1,13 @@
 // The 64 channels of a hall, in and out of each call by value.
 ghost use mathlib.Core.Path.{_≡_};
-ghost use Rattle.energy.specs.Channels.{told};
+ghost use Rattle.channel.specs.Channels.{told};
 ghost use Rattle.energy.specs.Hall.{allClosed, answerOn, leavesOn, hallTotal};
-use crate::calls::Answered;
-use crate::calls::Call;
-use crate::calls::Opening;
-use crate::calls::Reading;
-use crate::channels::Channel;
-use crate::channels::closed_channel;
+use channel::calls::Answered;
+use channel::calls::Call;
+use channel::calls::Opening;
+use channel::calls::Reading;
+use channel::record::Channel;
+use channel::record::closed_channel;
 
 // The channels after a call, and the call's answer.
 pub struct HallAfter {

@@ -1,10 +1,10 @@
 // A worked night: the calls of energy's specs/Night.antt, one line for each with what came, then the totals beside the
 // wattmeter's sum of the whole counts, which no call is handed.
-use energy::calls::Answered;
-use energy::calls::Call;
-use energy::calls::Opening;
-use energy::calls::Reading;
-use energy::channels::Channel;
+use channel::calls::Answered;
+use channel::calls::Call;
+use channel::calls::Opening;
+use channel::calls::Reading;
+use channel::record::Channel;
 use energy::hall;
 use libc::STDOUT_FILENO;
 

@@ -23,7 +23,7 @@ use Rattle.domains.specs.Registers.{present, registerAt, absent, contentNumber,
 use Rattle.domains.specs.Lookups.{contentFor}
 use Rattle.limits.specs.Writes as writes
 use Rattle.limits.specs.Writes.{widthOf, aLimit, unwritable, refusalOf, nextContent, nextNumber, nextOf, nextFor, writeNumber, barLeft, lowLeft, highLeft}
-use Rattle.energy.specs.Channels.{inRange, isOpen, tests, values, taken}
+use Rattle.channel.specs.Channels.{inRange, isOpen, tests, values, taken}
 use Rattle.energy.specs.Hall.{testsOn, answerOn, leavesOn}
 use Rattle.stamp.specs.Table.{Row, sameNumbers, same, allSame, table, AllDue, SameFact, RowsFact, TableFact}
 

@@ -23,8 +23,8 @@ use Rattle.windows.specs.Windows.{windowOf}
 use Rattle.domains.specs.Lookups.{contentFor}
 use Rattle.limits.specs.Writes.{nextFor, lowLeft, highLeft}
 use Rattle.energy.specs.Hall.{Named, allClosed, answerOn, leavesAll}
-use Rattle.energy.specs.declared.calls.Call.{Call}
-use Rattle.energy.specs.declared.calls.Call.the-variants.{Open, Read, Ask}
+use Rattle.channel.specs.declared.calls.Call.{Call}
+use Rattle.channel.specs.declared.calls.Call.the-variants.{Open, Read, Ask}
 
 pub record Row : Type 0 where
   pub asked : Answer

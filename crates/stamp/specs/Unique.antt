@@ -73,7 +73,7 @@ use Rattle.energy.proofs.hall.resume.Reads as energy-resume
 use Rattle.energy.proofs.hall.close.Reads as energy-close
 use Rattle.energy.proofs.hall.total.Reads as energy-total
 use Rattle.energy.proofs.hall.hall_total.Reads as energy-hall-total
-use Rattle.energy.proofs.channels.Channel.take.Reads as energy-take
+use Rattle.channel.proofs.record.Channel.take.Reads as energy-take
 
 abbrev pub Fixes : {L : Type 0} {A R E B : L → Type 0} → ((κs : L) → R κs → E κs → B κs) → ((κs : L) → A κs → R κs → E κs → Type 0) → Type 0
 Fixes {L} {A} {R} {E} out P = (κs : L) (a : A κs) (x y : R κs) (s t : E κs) → P κs a x s → P κs a y t → out κs x s ≡ out κs y t

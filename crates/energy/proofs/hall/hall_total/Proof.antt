@@ -6,9 +6,9 @@ use borrow.Author.Needs.{needs}
 use native.Mathlib.Omega.{arith}
 use lib.ListN.{take, getD}
 use lib.Seq.{take-all}
-use Rattle.energy.specs.Channels.{most, closed, share}
+use Rattle.channel.specs.Channels.{most, closed, share}
 use Rattle.energy.specs.Hall.{shares}
-use Rattle.energy.proofs.ChannelLaws.{share-most}
+use Rattle.channel.proofs.ChannelLaws.{share-most}
 use Rattle.energy.proofs.HallLaws.{shares-more, hall-17, hall-sum}
 use Rattle.energy.proofs.hall.hall_total.Statement.{statement}
 use Rattle.energy.proofs.hall.hall_total.Tie as tie

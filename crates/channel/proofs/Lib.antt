@@ -1,0 +1,4 @@
+pub mod ChannelLaws
+pub mod Accepted
+pub mod Ways
+pub mod Theorems
