@@ -1,6 +1,6 @@
 // How a line is written: words, numbers, bytes, and what each answer says.
-use features::places::Found;
-use features::places::Value;
+use places::found::Found;
+use places::found::Value;
 use libc::STDOUT_FILENO;
 use words::bytes::u8_at;
 

@@ -13,7 +13,7 @@ use Rattle.words.specs.Tables.{fields}
 use Rattle.words.proofs.TableLaws.{fields-whole}
 use Rattle.words.proofs.TestLaws.{or-neither, or-either, or-second, fails-exactly, fails-else}
 use Rattle.words.proofs.Theorems.{exact-fact, unless-fact}
-use Rattle.features.specs.Discovery.{Capture}
+use Rattle.discovery.specs.Discovery.{Capture}
 use Rattle.features.specs.Places.{instanceNumber}
 use Rattle.domains.specs.Domains.{widths, headerOf, headerIn, missing, unused, wrong, unsound, domainNumber, domainOf}
 use Rattle.domains.specs.Registers.{present, registerAt, absent, contentNumber, contentOf}

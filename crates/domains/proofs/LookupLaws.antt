@@ -5,10 +5,11 @@ use mathlib.Core.List.{List}
 use mathlib.Core.Logic.{_≢_}
 use Rattle.words.specs.Answers.{Answer, refused, gives}
 use Rattle.words.proofs.AnswerLaws.{unless-refused, unless-stops, unless-passes}
-use Rattle.features.specs.Discovery.{Capture}
-use Rattle.features.specs.Places.{partOf, instanceNumber, instanceOf, instancePart}
-use Rattle.features.specs.Told.{placed}
-use Rattle.features.specs.declared.places.Place.{Place}
+use Rattle.discovery.specs.Discovery.{Capture}
+use Rattle.places.specs.Parts.{partOf}
+use Rattle.features.specs.Places.{instanceNumber, instanceOf, instancePart}
+use Rattle.places.specs.Told.{placed}
+use Rattle.places.specs.declared.found.Place.{Place}
 use Rattle.features.proofs.PlaceLaws.{instance-at}
 use Rattle.features.proofs.InsideLaws.{part-at}
 use Rattle.domains.specs.Lookups.{instanceOr}

@@ -9,7 +9,7 @@ use lib.ListN.{length}
 use Rattle.words.specs.Answers.{Answer, refused, gives}
 use Rattle.words.specs.Fields.{bit}
 use Rattle.words.specs.Tables.{fields, withFields}
-use Rattle.features.specs.Discovery.{Capture}
+use Rattle.discovery.specs.Discovery.{Capture}
 use Rattle.features.specs.Places.{instanceNumber, instancePart}
 use Rattle.domains.specs.Domains.{widths, headerOf, headerIn, values, domainNumber, domainOf}
 use Rattle.domains.specs.Registers.{registerAt, contentOf}

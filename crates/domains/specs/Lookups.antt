@@ -5,7 +5,7 @@
 use Prim.Native.Nat.{ℕ}
 use mathlib.Core.List.{List}
 use Rattle.words.specs.Answers.{Answer, unless}
-use Rattle.features.specs.Discovery.{Capture}
+use Rattle.discovery.specs.Discovery.{Capture}
 use Rattle.features.specs.Places.{instanceNumber, instancePart}
 use Rattle.domains.specs.Domains.{domainOf}
 use Rattle.domains.specs.Registers.{contentOf}

@@ -1,12 +1,12 @@
 // The parent chain of a domain, in the bytes of an instance: followed to its root, its steps counted.
 ghost use mathlib.Core.Path.{_≡_};
 ghost use Prim.Native.Nat.{_≤_};
-ghost use Rattle.features.specs.Told.{valued};
+ghost use Rattle.places.specs.Told.{valued};
 ghost use Rattle.domains.specs.Chains.{climbFrom, chainOf};
 use crate::headers::Known;
 use crate::headers::domain_in;
 use crate::headers::number_of;
-use features::places::Value;
+use places::found::Value;
 
 // The steps from domain n to its root, counted on from those that are gone: so many are left of 255.
 fn climb(s: &[u8], n: u64, left: u64) -> Value

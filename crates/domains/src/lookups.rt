@@ -1,7 +1,7 @@
 // Domains over a capture: the instance is looked up afresh (1 to 13), then asked. Domains are those of feature 0.
 ghost use mathlib.Core.Path.{_≡_};
-ghost use Rattle.features.specs.Discovery.{captured};
-ghost use Rattle.features.specs.Told.{valued};
+ghost use Rattle.discovery.specs.Discovery.{captured};
+ghost use Rattle.places.specs.Told.{valued};
 ghost use Rattle.domains.specs.Lookups.{domainFor, contentFor, chainFor};
 ghost use Rattle.domains.specs.Told.{told};
 use crate::chains::chain_in;
@@ -9,10 +9,10 @@ use crate::headers::Known;
 use crate::headers::domain_in;
 use crate::registers::register_in;
 use features::instances::instance_place;
-use features::places::Found;
-use features::places::Value;
-use features::places::number_of;
-use features::places::part_of;
+use places::found::Found;
+use places::found::Value;
+use places::found::number_of;
+use places::found::part_of;
 
 // Domain n of instance i.
 pub fn domain<'a>(

@@ -1,11 +1,11 @@
 // A register of a domain, in the bytes of an instance: 17, then 26, after the domain's lookup.
 ghost use mathlib.Core.Path.{_≡_};
-ghost use Rattle.features.specs.Told.{valued};
+ghost use Rattle.places.specs.Told.{valued};
 ghost use Rattle.domains.specs.Registers.{present, contentOf};
 use crate::headers::Known;
 use crate::headers::domain_in;
 use crate::headers::number_of;
-use features::places::Value;
+use places::found::Value;
 use words::bytes::u64_at;
 use words::fields::field;
 

@@ -18,10 +18,11 @@ use Rattle.entries.specs.Facts.{Shared}
 use Rattle.entries.specs.declared.faults.Bank.{Bank}
 use Rattle.entries.proofs.FaultFact.{table-faults}
 use Rattle.entries.proofs.SameTable.{bank-same, faults-same}
-use Rattle.features.specs.Discovery.{Capture, captured, structureOf, birOf, barOf, tableOf, entriesOf, beforeWalk, birNumber, tableNumber, numberOf}
+use Rattle.discovery.specs.Discovery.{Capture, captured, structureOf, birOf, barOf, tableOf, entriesOf, beforeWalk, birNumber, tableNumber, numberOf}
 use Rattle.features.specs.Places.{holds, indexIn, missing, bankFor, sizeFor, featureNumber, startFor, invalidAt, unsound, instanceNumber, instancePart}
 use Rattle.features.proofs.PlaceLaws.{part-found}
-use Rattle.features.proofs.InsideLaws.{no-fault, discovered, index-there, entry-filled}
+use Rattle.discovery.proofs.DiscoveryLaws.{no-fault}
+use Rattle.features.proofs.InsideLaws.{discovered, index-there, entry-filled}
 
 -- the capture with other BAR captures
 abbrev pub changed : Capture → List ℕ → List ℕ → Capture

@@ -12,25 +12,16 @@ use lib.ListN.{length}
 use Rattle.words.proofs.TestLaws.{and-both}
 use Rattle.words.proofs.AnswerLaws.{first-zero, earliest-zero}
 use Rattle.words.proofs.BelowLaws.{is-least}
-use Rattle.entries.specs.Faults.{bankIn, emptyBank, faultsOf}
+use Rattle.entries.specs.Faults.{bankIn, emptyBank}
 use Rattle.entries.specs.Facts.{Filled}
 use Rattle.entries.proofs.FaultFact.{filled-exactly, table-faults}
-use Rattle.features.specs.Discovery.{Capture, barOf, tableOf, entriesOf, numberOf}
-use Rattle.features.specs.Places.{holds, indexIn, missing, bankFor, sizeFor, featureNumber, startFor, invalidAt, piece, partOf, unsound, instanceNumber, instancePart}
-use Rattle.features.specs.declared.places.Place.{Place}
-use Rattle.features.proofs.PlaceLaws.{bank-for-bounded, InstancePlace, bar-named, piece-there, part-found}
-
--- ---- discovery
-
--- an accepted capture has a table without a fault
-pub no-fault : (c : Capture) → numberOf c ≡ 0 → faultsOf (barOf c) (tableOf c) (entriesOf c) ≡ 0
-unfolding numberOf
-no-fault c z =
-    let a = earliest-zero _ _ z .1 in
-    let b = earliest-zero _ _ a .1 in
-    let d = earliest-zero _ _ b .1 in
-    let e = earliest-zero _ _ d .1 in
-    earliest-zero _ _ e .0
+use Rattle.discovery.specs.Discovery.{Capture, barOf, tableOf, entriesOf, numberOf}
+use Rattle.features.specs.Places.{holds, indexIn, missing, bankFor, sizeFor, featureNumber, startFor, invalidAt, unsound, instanceNumber, instancePart}
+use Rattle.places.specs.Parts.{piece, partOf}
+use Rattle.places.specs.declared.found.Place.{Place}
+use Rattle.features.proofs.PlaceLaws.{bank-for-bounded, InstancePlace, part-found}
+use Rattle.discovery.proofs.DiscoveryLaws.{bar-named, no-fault}
+use Rattle.places.proofs.PartLaws.{piece-there}
 
 -- ---- a feature
 

@@ -1,32 +1,31 @@
 -- The lookups over a capture decide their plain statements; accepted instances lie inside, are not empty and share no byte. Assumes nothing.
-use Prim.Native.Nat.{ℕ, _+_, _*_, _%_, _≤_, _<_}
+use Prim.Native.Nat.{ℕ, _+_, _*_, _≤_, _<_}
 use mathlib.Core.Path.{_≡_, refl, sym, ap, _∙_, subst}
-use mathlib.Core.Bool.{Bool, true, false, not, _||_}
+use mathlib.Core.Bool.{Bool, true, false, not}
 use mathlib.Core.List.{List, [], _∷_}
 use mathlib.Core.Logic.{inr, ⊎-elim, _↔_, _≢_}
 use native.Mathlib.Nat.{mul-le-mul, add-mul, one-mul, eq-or-lt-of-le}
 use native.Mathlib.Omega.{arith}
-use borrow.Author.Tests.{lt-leb, le-leb, leb-true, leb-false, eqb-true, eqb-false, eq-eqb, ne-eqb, le-ltb, not-true}
-use lib.Dec.{ltb, leb, eqb}
+use borrow.Author.Tests.{lt-leb, le-leb, leb-true, leb-false, eqb-true, eqb-false, eq-eqb, ne-eqb, not-true}
+use lib.Dec.{leb, eqb}
 use lib.ListN.{length, take, drop, length-take, length-drop}
-use Rattle.words.specs.Answers.{Answer, refused, gives, numberIn}
 use Rattle.words.specs.Below.{least}
 use Rattle.words.specs.Bytes.{AllBytes}
-use Rattle.words.proofs.TestLaws.{as-must, or-skip, and-both, and-holds, fails-exactly, fails-else, never-both}
-use Rattle.words.proofs.AnswerLaws.{earliest-stop, earliest-upto, earliest-end, first-upto, first-zero, first-none, first-skip, first-end, two-pass, two-zero, two-from}
+use Rattle.words.proofs.TestLaws.{and-both, and-holds, fails-exactly, fails-else, never-both}
+use Rattle.words.proofs.AnswerLaws.{earliest-stop, earliest-upto, earliest-end, first-upto, first-zero, first-none, two-pass, two-zero, two-from}
 use Rattle.words.proofs.BelowLaws.{is-least}
 use Rattle.words.proofs.NumberLaws.{number-ones, ones-number}
 use Rattle.words.proofs.Theorems.{exact-fact}
 use Rattle.entries.specs.Faults.{bankIn, emptyBank}
 use Rattle.entries.specs.Facts.{Filled, Shared}
-use Rattle.vsec.specs.Walk.{walkOf}
-use Rattle.vsec.proofs.WalkFact.{Kept, walk-kept}
-use Rattle.entries.proofs.FaultFact.{filled-exactly, table-faults, faults-small}
-use Rattle.features.specs.Discovery.{Capture, beforeWalk, birNumber, tableNumber, barOf, tableOf, entriesOf, numberOf}
-use Rattle.features.specs.Places.{holds, indexIn, missing, bankFor, sizeFor, featureNumber, startFor, invalidAt, unsound, instanceNumber, instancePart, outside, registerNumber}
+use Rattle.entries.proofs.FaultFact.{filled-exactly, table-faults}
+use Rattle.discovery.specs.Discovery.{Capture, barOf, tableOf, entriesOf}
+use Rattle.features.specs.Places.{holds, indexIn, missing, bankFor, sizeFor, featureNumber, startFor, invalidAt, unsound, instanceNumber, instancePart}
 use Rattle.features.specs.Facts.{Has, Ones, LookupFact, PlaceFact, ApartFact}
-use Rattle.features.proofs.PlaceLaws.{outside-room, outside-none, part-found}
-use Rattle.features.proofs.InsideLaws.{no-fault, discovered, index-there, entry-filled, bank-id, feature-found, size-some, instance-in-bank, instance-inside}
+use Rattle.features.proofs.PlaceLaws.{part-found}
+use Rattle.discovery.proofs.DiscoveryLaws.{no-fault}
+use Rattle.features.proofs.InsideLaws.{discovered, index-there, entry-filled, bank-id, feature-found, size-some, instance-in-bank, instance-inside}
+use Rattle.discovery.proofs.DiscoveryFact.{discovery-small}
 
 -- ---- a feature
 
@@ -69,45 +68,28 @@ module _ (c : Capture) (id : ℕ) where
       let f = fails-exactly (leb (entriesOf c) (indexIn (barOf c) (tableOf c) (entriesOf c) id)) (λ e. index-exactly .0 (leb-false _ _ e), λ h. lt-leb _ _ (index-exactly .1 h)) in
       (λ e. f .0 (n12 .0 e .1), λ h. n12 .1 (tt, f .1 h))
 
--- ---- an instance, and a register
+-- ---- an instance
 
 -- the eight bytes are all ones exactly if each is
 invalid-exactly : (c : Capture) (at : ℕ) → AllBytes (barOf c) → (invalidAt (barOf c) at ≡ true) ↔ Ones c at
 unfolding invalidAt
 invalid-exactly c at b = (λ e. number-ones (barOf c) b at 8 (eqb-true _ _ e), λ h. eq-eqb _ _ (ones-number (barOf c) at 8 h))
 
-outside-exactly : (size offset : ℕ) → ((not (eqb (offset % 8) 0) || ltb size (offset + 8)) ≡ false) ↔ ((offset % 8 ≡ 0) × (offset + 8 ≤ size))
-unfolding outside
-outside-exactly size offset = (λ e. outside-room size offset (first-skip _ _ e ∙ first-end), λ h. or-skip _ (as-must (h .0)) ∙ le-ltb _ _ (h .1))
-
--- discovery gives no number above 11, so those of the lookups are told apart
-walk-small : (w : Answer) → Kept w → numberIn w ≤ 11
-walk-small (refused n) k = omega (arith, k .1)
-walk-small (gives vs) k = omega arith
-
-discovery-small : (c : Capture) → numberOf c ≤ 11
-unfolding numberOf beforeWalk birNumber tableNumber
-discovery-small c =
-    earliest-upto 11 _ _ (first-upto 11 _ tt) (earliest-upto 11 _ _ (walk-small (walkOf (c .config)) (walk-kept (c .config)))
-    (earliest-upto 11 _ _ (first-upto 11 _ tt) (earliest-upto 11 _ _ (first-upto 11 _ tt) (earliest-upto 11 _ _ (faults-small (barOf c) (tableOf c) (entriesOf c)) (omega (arith, earliest-end))))))
-
 feature-small : (c : Capture) (id : ℕ) → featureNumber c id ≤ 12
 unfolding featureNumber missing
 feature-small c id = earliest-upto 12 _ _ (omega (arith, discovery-small c)) (earliest-upto 12 _ _ (first-upto 12 _ tt) (omega (arith, earliest-end)))
 
-instance-small : (c : Capture) (id n : ℕ) → instanceNumber c id n ≤ 13
+pub instance-small : (c : Capture) (id n : ℕ) → instanceNumber c id n ≤ 13
 unfolding instanceNumber unsound
 instance-small c id n = earliest-upto 13 _ _ (omega (arith, feature-small c id)) (earliest-upto 13 _ _ (first-upto 13 _ tt) (omega (arith, earliest-end)))
 
-pub lookup-fact : (c : Capture) (id n offset : ℕ) → LookupFact c id n offset
-unfolding featureNumber instanceNumber registerNumber unsound outside
-lookup-fact c id n offset =
+pub lookup-fact : (c : Capture) (id n : ℕ) → LookupFact c id n
+unfolding featureNumber instanceNumber unsound
+lookup-fact c id n =
     let many : ℕ = bankFor c id .instances in
     let bad : Bool = invalidAt (barOf c) (startFor c id n) in
     let n12 = exact-fact [] (leb many n) 12 ((bad, 13) ∷ []) (λ z. omega arith) tt in
     let n13 = exact-fact ((leb many n, 12) ∷ []) bad 13 [] (λ z. omega arith) tt in
-    let off = outside-exactly (sizeFor c id) offset in
-    let n14 = exact-fact [] (not (eqb (offset % 8) 0) || ltb (sizeFor c id) (offset + 8)) 14 [] (λ z. omega arith) tt in
     record {
       feature-handed-on = earliest-stop _ _;
       feature-missing = λ z. (λ e. missing-twelve c id .0 (sym (two-pass _ z) ∙ e), λ h. two-pass _ z ∙ missing-twelve c id .1 h);
@@ -121,15 +103,6 @@ lookup-fact c id n offset =
       instance-found = λ b. (
         λ e. let z = two-zero _ _ .0 e in let f = first-zero _ tt (z .1) in (z .0, leb-false _ _ (f .0), fails-else bad (invalid-exactly c _ b) .0 (f .1 .0)),
         λ h. two-zero _ _ .1 (h .0, first-none _ (lt-leb _ _ (h .1), (fails-else bad (invalid-exactly c _ b) .1 (h .2), tt))),
-      );
-      register-handed-on = earliest-stop _ _;
-      register-outside = (
-        λ e. let q = two-from (instanceNumber c id n) _ (λ z. omega (arith, instance-small c id n, z)) e in (q .0, fails-exactly _ off .0 (n14 .0 (q .1) .1)),
-        λ h. two-pass _ (h .0) ∙ n14 .1 (tt, fails-exactly _ off .1 (h .1)),
-      );
-      register-found = (
-        λ e. let z = two-zero _ _ .0 e in let r = outside-room _ _ (z .1) in (z .0, r .0, r .1),
-        λ h. two-zero _ _ .1 (h .0, outside-none _ _ (h .1) (h .2)),
       );
     }
 

@@ -1,5 +1,2 @@
-pub mod Discovery
 pub mod Places
-pub mod Valid
-pub mod Told
 pub mod Facts

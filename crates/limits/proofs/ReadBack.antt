@@ -13,7 +13,7 @@ use Rattle.words.specs.Bytes.{AllBytes, numberAt, stored}
 use Rattle.words.proofs.AnswerLaws.{unless-passes}
 use Rattle.words.proofs.NumberLaws.{number-part}
 use Rattle.words.proofs.StoreLaws.{number-stored-below, number-stored-above, length-stored}
-use Rattle.features.specs.Discovery.{Capture, structureOf, birOf, barOf, tableOf, entriesOf}
+use Rattle.discovery.specs.Discovery.{Capture, structureOf, birOf, barOf, tableOf, entriesOf}
 use Rattle.features.specs.Places.{bankFor, sizeFor, featureNumber, startFor, instanceNumber, instancePart}
 use Rattle.features.proofs.PlaceLaws.{part-found}
 use Rattle.features.proofs.InsideLaws.{feature-found, instance-in-bank}

@@ -15,7 +15,7 @@ use Rattle.words.proofs.FieldLaws.{field-with-fit, with-lt}
 use Rattle.words.proofs.NumberLaws.{number-lt, number-part}
 use Rattle.words.proofs.StoreLaws.{number-stored, stored-other, length-stored}
 use Rattle.words.proofs.Theorems.{field-fact}
-use Rattle.features.specs.Discovery.{Capture, birOf, barOf}
+use Rattle.discovery.specs.Discovery.{Capture, birOf, barOf}
 use Rattle.features.specs.Places.{startFor, sizeFor, instanceNumber, instancePart}
 use Rattle.features.proofs.PlaceLaws.{part-found}
 use Rattle.features.proofs.InsideLaws.{instance-inside}

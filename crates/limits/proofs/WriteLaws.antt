@@ -10,9 +10,9 @@ use lib.Dec.{eqb}
 use Rattle.words.specs.Answers.{refused, gives, numberIn}
 use Rattle.words.specs.Bytes.{stored}
 use Rattle.words.proofs.AnswerLaws.{unless-passes}
-use Rattle.features.specs.Discovery.{Capture, birOf, barOf}
+use Rattle.discovery.specs.Discovery.{Capture, birOf, barOf}
 use Rattle.features.specs.Places.{instancePart}
-use Rattle.features.specs.declared.places.Place.{Place}
+use Rattle.places.specs.declared.found.Place.{Place}
 use Rattle.features.proofs.PlaceLaws.{InstancePlace}
 use Rattle.features.proofs.InsideLaws.{start-small}
 use Rattle.domains.specs.Registers.{registerPlace}

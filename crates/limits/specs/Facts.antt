@@ -11,7 +11,7 @@ use Rattle.words.specs.Answers.{refused, gives}
 use Rattle.words.specs.Bytes.{AllBytes, numberAt}
 use Rattle.words.specs.Facts.{WordTrips}
 use Rattle.words.specs.Fields.{field, bit}
-use Rattle.features.specs.Discovery.{Capture, captured, birOf, barOf}
+use Rattle.discovery.specs.Discovery.{Capture, captured, birOf, barOf}
 use Rattle.features.specs.Places.{startFor, sizeFor, instancePart}
 use Rattle.domains.specs.Domains.{headerIn, domainNumber}
 use Rattle.domains.specs.Facts.{Sound, Present}

@@ -19,7 +19,7 @@ use lib.ListN.{getD}
 use Rattle.words.specs.Answers.{Answer, gives, unless, numberIn, first, earliest}
 use Rattle.words.specs.Bytes.{stored}
 use Rattle.words.specs.Fields.{field, withField}
-use Rattle.features.specs.Discovery.{Capture, birOf, barOf}
+use Rattle.discovery.specs.Discovery.{Capture, birOf, barOf}
 use Rattle.features.specs.Places.{startFor, instancePart}
 use Rattle.domains.specs.Domains.{headerIn, domainNumber}
 use Rattle.domains.specs.Registers.{present, registerPlace, registerAt}

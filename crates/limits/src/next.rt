@@ -1,7 +1,7 @@
 // What a limit's register holds next, after a write of one field: in the bytes of an instance, and over a capture. Nothing is stored.
 ghost use mathlib.Core.Path.{_≡_};
-ghost use Rattle.features.specs.Discovery.{captured};
-ghost use Rattle.features.specs.Told.{valued};
+ghost use Rattle.discovery.specs.Discovery.{captured};
+ghost use Rattle.places.specs.Told.{valued};
 ghost use Rattle.limits.specs.Writes.{nextOf, nextFor};
 use crate::fields::refusal;
 use crate::fields::span_of;
@@ -9,9 +9,9 @@ use domains::headers::Known;
 use domains::headers::domain_in;
 use domains::headers::number_of;
 use features::instances::instance_place;
-use features::places::Found;
-use features::places::Value;
-use features::places::part_of;
+use places::found::Found;
+use places::found::Value;
+use places::found::part_of;
 use words::bytes::u64_at;
 use words::fields::with_field;
 
@@ -50,7 +50,7 @@ pub fn next<'a>(
 {
     let found = instance_place(config, lo, low, hi, high, 0, i);
     let Found::At(p) = found else {
-        return Value::Refused(features::places::number_of(found));
+        return Value::Refused(places::found::number_of(found));
     };
     next_in(part_of(p, lo, low, high), n, limit, which, value)
 }

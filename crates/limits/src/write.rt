@@ -1,15 +1,15 @@
 // The write of one field of a limit: the register's next content, stored in the BAR capture that tBIR names.
 ghost use mathlib.Core.Path.{_≡_};
 ghost use Rattle.words.specs.Answers.{numberIn};
-ghost use Rattle.features.specs.Discovery.{captured};
-ghost use Rattle.features.specs.Told.{valued};
+ghost use Rattle.discovery.specs.Discovery.{captured};
+ghost use Rattle.places.specs.Told.{valued};
 ghost use Rattle.limits.specs.Writes.{writeNumber, lowLeft, highLeft};
 use crate::next::next_in;
 use features::instances::instance_place;
-use features::places::Found;
-use features::places::Value;
-use features::places::number_of;
-use features::places::part_of;
+use places::found::Found;
+use places::found::Value;
+use places::found::number_of;
+use places::found::part_of;
 use words::bytes::store_u64;
 
 // The refusal's number, 0 where a content is given.

@@ -6,8 +6,9 @@ use mathlib.Core.List.{List, [], _∷_}
 use Rattle.words.specs.Bytes.{numberAt}
 use Rattle.entries.specs.Faults.{bankIn, emptyBank}
 use Rattle.entries.specs.declared.faults.Bank.{Bank}
-use Rattle.features.specs.Discovery.{named, discoveryOf}
-use Rattle.features.specs.Valid.{validCountIn}
+use Rattle.places.specs.Parts.{named}
+use Rattle.discovery.specs.Discovery.{discoveryOf}
+use Rattle.counts.specs.Valid.{validCountIn}
 use Rattle.listing.specs.Layout.{readable, lowIn, highIn}
 use Rattle.listing.specs.Lines.{unreadable, answers, captureIn, listingOf, barIn, lineOf}
 

@@ -12,8 +12,9 @@ use mathlib.Core.List.{List, [], _∷_}
 use Rattle.words.specs.Answers.{Answer}
 use Rattle.words.specs.Bytes.{numberAt}
 use Rattle.entries.specs.Faults.{bankIn, emptyBank}
-use Rattle.features.specs.Discovery.{Capture, captured, named, discoveryOf}
-use Rattle.features.specs.Valid.{validCountIn}
+use Rattle.discovery.specs.Discovery.{Capture, captured, discoveryOf}
+use Rattle.places.specs.Parts.{named}
+use Rattle.counts.specs.Valid.{validCountIn}
 use Rattle.listing.specs.Layout.{readable, middleOf, configIn, lowIn, highIn}
 
 pub data Said : Type 0 where

@@ -9,11 +9,11 @@ use crate::layout::layout_of;
 use crate::layout::low_in;
 use entries::faults::bank_in;
 use entries::faults::empty;
-use features::discovery::discover;
-use features::places::Found;
-use features::places::bar_of;
-use features::places::number_of;
-use features::valid::valid_in;
+use discovery::table::discover;
+use places::found::Found;
+use places::found::bar_of;
+use places::found::number_of;
+use counts::valid::valid_in;
 
 // The table that an accepted input has: its place in the BAR capture with the number `bir`, and how many entries.
 pub struct Table {

@@ -14,7 +14,7 @@ use Rattle.vsec.specs.Structure.{vsecOf, vsecAt, fixedWrong, readNumber, readOf
 use Rattle.vsec.specs.Walk.{identifierAt, nextAt, vsecIdAt, followed, takenAt, headerAt, walkFrom, emptyList, walkOf}
 use Rattle.entries.specs.Entry.{entryOf, entryAt}
 use Rattle.entries.specs.Faults.{bankOf, bankIn, emptyBank, repeats, meets, faultAt, faultsOf}
-use Rattle.features.specs.Discovery.{structureOf, barOf, misshapen, beforeWalk, birNumber, tableNumber, numberOf, discoveryOf}
+use Rattle.discovery.specs.Discovery.{structureOf, barOf, misshapen, beforeWalk, birNumber, tableNumber, numberOf, discoveryOf}
 use Rattle.features.specs.Places.{indexIn, missing, bankFor, featureNumber, featureOf, invalidAt, unsound, instanceNumber, instancePart}
 use Rattle.windows.specs.Windows.{quartersOf, longEnough, placeOf, windowNumber, windowOf}
 use Rattle.domains.specs.Domains as domains

@@ -3,7 +3,7 @@
 use mathlib.Core.Path.{sym, _∙_}
 use Rattle.vsec.proofs.Theorems as vsec
 use Rattle.entries.proofs.Theorems as entries
-use Rattle.features.proofs.Told as features
+use Rattle.places.proofs.Told as features
 use Rattle.listing.proofs.Told as listing
 use Rattle.windows.proofs.Theorems as windows
 use Rattle.domains.proofs.Told as domains

@@ -17,7 +17,7 @@ use lib.Dec.{eqb}
 use lib.ListN.{replicate}
 use Rattle.words.specs.Answers.{Answer, refused, gives}
 use Rattle.vsec.specs.Structure.{readOf}
-use Rattle.features.specs.Discovery.{Capture, captured, discoveryOf}
+use Rattle.discovery.specs.Discovery.{Capture, captured, discoveryOf}
 use Rattle.features.specs.Places.{featureOf}
 use Rattle.windows.specs.Windows.{windowOf}
 use Rattle.domains.specs.Lookups.{contentFor}

@@ -1,7 +1,7 @@
 -- `domains::chains::chain_in` meets its contract: the domain's refusal, or the climb from it. Assumes nothing.
 use mathlib.Core.Path.{_≡_, sym, ap, _∙_}
 use Rattle.words.specs.Answers.{refused, numberIn}
-use Rattle.features.specs.Told.{valued}
+use Rattle.places.specs.Told.{valued}
 use Rattle.domains.specs.Chains.{climbFrom}
 use Rattle.domains.specs.Told.{told}
 use Rattle.domains.proofs.ChainLaws.{chain-begins, chain-refused}

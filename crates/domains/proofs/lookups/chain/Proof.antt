@@ -3,8 +3,8 @@ use mathlib.Core.Path.{_≡_, sym, ap, _∙_}
 use mathlib.Core.List.{List}
 use Prim.Native.Nat.{ℕ}
 use Rattle.words.specs.Answers.{Answer, refused, numberIn}
-use Rattle.features.specs.Discovery.{Capture, captured}
-use Rattle.features.specs.Told as features
+use Rattle.discovery.specs.Discovery.{Capture, captured}
+use Rattle.places.specs.Told as features
 use Rattle.domains.specs.Chains.{chainOf}
 use Rattle.domains.specs.Lookups.{chainFor}
 use Rattle.domains.proofs.LookupLaws.{or-refused, or-found}

@@ -2,11 +2,12 @@
 use mathlib.Core.Path.{sym, ap, _∙_}
 use native.Mathlib.Omega.{arith}
 use Rattle.words.proofs.AnswerLaws.{stage-stops}
-use Rattle.features.specs.Discovery.{Capture, captured, discoveryOf, numberOf}
+use Rattle.discovery.specs.Discovery.{Capture, captured, discoveryOf, numberOf}
 use Rattle.features.specs.Places.{featureOf, featureNumber}
-use Rattle.features.specs.Told.{told}
-use Rattle.features.proofs.DiscoveryLaws.{structure-narrow}
-use Rattle.features.proofs.PlaceLaws.{TablePlace, table-place, feature-from}
+use Rattle.places.specs.Told.{told}
+use Rattle.discovery.proofs.DiscoveryLaws.{structure-narrow}
+use Rattle.discovery.proofs.DiscoveryLaws.{TablePlace, table-place}
+use Rattle.features.proofs.PlaceLaws.{feature-from}
 use borrow.Author.Needs.{needs}
 use Rattle.features.proofs.instances.feature.Statement.{statement}
 use Rattle.features.proofs.instances.feature.Tie as tie

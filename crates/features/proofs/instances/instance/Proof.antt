@@ -1,7 +1,7 @@
 -- `features::instances::instance` meets its contract: the empty part, or the part at the place that is found. Assumes nothing.
 use mathlib.Core.Path.{sym, ap, _∙_}
-use Rattle.features.specs.Discovery.{Capture, captured}
-use Rattle.features.specs.Told.{told}
+use Rattle.discovery.specs.Discovery.{Capture, captured}
+use Rattle.places.specs.Told.{told}
 use Rattle.features.proofs.PlaceLaws.{instance-at, part-refused}
 use Rattle.features.proofs.InsideLaws.{part-at}
 use borrow.Author.Needs.{needs}

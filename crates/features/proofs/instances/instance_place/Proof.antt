@@ -1,9 +1,9 @@
 -- `features::instances::instance_place` meets its contract: the feature's refusal, or the instance of its bank. Assumes nothing.
 use mathlib.Core.Path.{sym, ap, _∙_}
 use Rattle.words.proofs.AnswerLaws.{stage-stops}
-use Rattle.features.specs.Discovery.{Capture, captured}
+use Rattle.discovery.specs.Discovery.{Capture, captured}
 use Rattle.features.specs.Places.{featureOf, featureNumber, instanceOf, instanceNumber}
-use Rattle.features.specs.Told.{told}
+use Rattle.places.specs.Told.{told}
 use Rattle.features.proofs.PlaceLaws.{BankPlace, bank-place, bank-roomy, instance-from}
 use borrow.Author.Needs.{needs}
 use Rattle.features.proofs.instances.instance_place.Statement.{statement}

@@ -3,8 +3,8 @@ use mathlib.Core.Path.{sym, ap, _∙_}
 use mathlib.Core.List.{List}
 use Prim.Native.Nat.{ℕ}
 use Rattle.words.specs.Answers.{Answer, refused, numberIn}
-use Rattle.features.specs.Discovery.{Capture, captured}
-use Rattle.features.specs.Told.{told}
+use Rattle.discovery.specs.Discovery.{Capture, captured}
+use Rattle.places.specs.Told.{told}
 use Rattle.domains.proofs.LookupLaws.{or-refused, or-found}
 use Rattle.limits.specs.Writes.{nextOf, nextFor}
 use borrow.Author.Needs.{needs}

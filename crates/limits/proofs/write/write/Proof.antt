@@ -7,9 +7,9 @@ use native.Mathlib.Omega.{arith}
 use denote.Ref.{now}
 use Rattle.words.specs.Answers.{Answer, gives, numberIn}
 use Rattle.words.proofs.AnswerLaws.{unless-passes}
-use Rattle.features.specs.Discovery.{Capture, captured}
+use Rattle.discovery.specs.Discovery.{Capture, captured}
 use Rattle.features.specs.Places.{instancePart}
-use Rattle.features.specs.Told.{told, valued}
+use Rattle.places.specs.Told.{told, valued}
 use Rattle.features.proofs.PlaceLaws.{InstancePlace, instance-at}
 use Rattle.features.proofs.InsideLaws.{part-at}
 use Rattle.domains.proofs.LookupLaws.{refused-some, or-refused}

@@ -3,7 +3,7 @@ use Prim.Native.Nat.{ℕ}
 use mathlib.Core.Path.{sym, ap, ap₂, _∙_}
 use mathlib.Core.List.{List}
 use Rattle.words.specs.Bytes.{numberAt}
-use Rattle.features.specs.Discovery.{named}
+use Rattle.places.specs.Parts.{named}
 use Rattle.listing.specs.Told.{laid}
 use Rattle.listing.proofs.LayoutLaws.{LaidOut, not-laid, laid-out}
 use Rattle.listing.proofs.LineLaws.{bar-none, bar-there}

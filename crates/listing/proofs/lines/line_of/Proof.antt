@@ -5,7 +5,7 @@ use mathlib.Core.List.{[], _∷_}
 use native.Mathlib.Omega.{arith}
 use Rattle.entries.specs.declared.faults.Bank.{Bank}
 use Rattle.entries.proofs.FaultLaws.{Bounded, bank-bounded}
-use Rattle.features.specs.Valid.{validCountIn}
+use Rattle.counts.specs.Valid.{validCountIn}
 use Rattle.listing.proofs.LineLaws.{line-none, line-there}
 use borrow.Author.Needs.{needs}
 use Rattle.listing.proofs.lines.line_of.Statement.{statement}

@@ -5,10 +5,10 @@ use mathlib.Core.List.{List, [], _∷_}
 use native.Mathlib.Omega.{arith}
 use Rattle.words.specs.Answers.{refused, gives, numberIn}
 use Rattle.words.specs.Bytes.{numberAt}
-use Rattle.features.specs.Discovery.{captured, discoveryOf}
-use Rattle.features.specs.Told.{told}
-use Rattle.features.proofs.DiscoveryLaws.{structure-narrow}
-use Rattle.features.proofs.PlaceLaws.{TablePlace, table-place}
+use Rattle.discovery.specs.Discovery.{captured, discoveryOf}
+use Rattle.places.specs.Told.{told}
+use Rattle.discovery.proofs.DiscoveryLaws.{structure-narrow}
+use Rattle.discovery.proofs.DiscoveryLaws.{TablePlace, table-place}
 use Rattle.listing.specs.Layout.{configIn, lowIn, highIn}
 use Rattle.listing.specs.Lines.{answers, captureIn}
 use Rattle.listing.specs.Told.{laid}

@@ -1,0 +1,177 @@
+-- Discovery accepts exactly the captures that keep the rules, and refuses each other one with the number of the first rule it breaks.
+-- Assumes nothing.
+use Prim.Native.Nat.{ℕ, _+_, _*_, _≤_, _<_}
+use mathlib.Core.Path.{_≡_, refl, sym, ap, _∙_, subst}
+use mathlib.Core.Bool.{Bool, true, false}
+use mathlib.Core.List.{List, [], _∷_}
+use mathlib.Core.Logic.{_⊎_, inl, inr, ⊎-elim, _↔_, _≢_}
+use native.Mathlib.Omega.{arith}
+use borrow.Author.Tests.{le-ltb, ltb-true, ltb-false, ne-eqb, eqb-true, eqb-false, not-false}
+use lib.Dec.{ltb, eqb}
+use lib.ListN.{length}
+use Rattle.words.specs.Answers.{Answer, refused, gives, numberIn}
+use Rattle.words.specs.Bytes.{numberAt}
+use Rattle.words.proofs.TestLaws.{as-must, or-skip, or-neither, fails-exactly}
+use Rattle.words.proofs.AnswerLaws.{unless-gives, unless-refused, earliest-upto, first-upto, earliest-end}
+use Rattle.vsec.specs.Facts.{Ends}
+use Rattle.vsec.specs.Structure.{vsecAt}
+use Rattle.vsec.specs.Walk.{walkOf}
+use Rattle.vsec.specs.declared.structure.Vsec.{Vsec}
+use Rattle.vsec.proofs.WalkFact.{walk-fact, walk-kept, Kept}
+use Rattle.entries.specs.Faults.{faultsOf}
+use Rattle.entries.proofs.FaultFact.{table-faults, faults-small}
+use Rattle.discovery.specs.Discovery.{Capture, misshapen, beforeWalk, tableIn, structureIn, numberOf, discoveryOf, birNumber, tableNumber, barOf, tableOf, entriesOf}
+use Rattle.discovery.specs.Facts.{Shaped, Vendor, barAt, Named, Fits, Keeps, Breaks, DiscoveryFact}
+use Rattle.discovery.specs.Facts.Breaks.{shape, vendor, walk, bir, table, entry}
+use Rattle.discovery.proofs.DiscoveryLaws.{early-one, early-two, early-none, table-past, table-fault, table-sound, bir-neither, bir-either, refuses-early, refuses-walk, passes-walk}
+
+-- ---- the shape of a capture
+
+shaped-exactly : (c : Capture) → (misshapen (length (c .config)) (c .lo) (c .hi) ≡ false) ↔ Shaped c
+unfolding misshapen
+shaped-exactly c = (
+  λ e.
+      let a = or-neither _ _ e in
+      let b = or-neither _ _ (a .1) in
+      let d = or-neither _ _ (b .1) in
+      record { config = eqb-true _ _ (not-false _ (a .0)); lo = ltb-false _ _ (b .0); hi = ltb-false _ _ (d .0); differ = eqb-false _ _ (d .1) },
+  λ s. or-skip _ (as-must (s .config)) ∙ or-skip _ (le-ltb _ _ (s .lo)) ∙ or-skip _ (le-ltb _ _ (s .hi)) ∙ ne-eqb _ _ (s .differ),
+)
+
+-- ---- from what a capture is to the number
+
+-- the number that an answer of discovery shows
+number-zero : (c : Capture) {vs : List ℕ} → discoveryOf c ≡ gives vs → numberOf c ≡ 0
+unfolding discoveryOf
+number-zero c e = unless-gives (numberOf c) e .0
+
+number-is : (c : Capture) {n : ℕ} → discoveryOf c ≡ refused n → numberOf c ≡ n
+unfolding discoveryOf
+number-is c e = unless-refused (numberOf c) _ e .0
+
+module _ (c : Capture) (s : Shaped c) (v : Vendor c) where
+  begins : beforeWalk (c .config) (c .lo) (c .hi) ≡ 0
+  begins = early-none (c .config) (c .lo) (c .hi) (shaped-exactly c .1 s) v
+
+  module _ {a : ℕ} (w : Ends (c .config) (gives (a ∷ []))) where
+    to-structure : discoveryOf c ≡ structureIn (vsecAt (c .config) a) (c .lo) (c .low) (c .hi) (c .high)
+    to-structure = passes-walk c begins (walk-fact (c .config) _ .1 w)
+
+    module _ (n : Named c a) where
+      to-table : discoveryOf c ≡ tableIn (barAt c a) (vsecAt (c .config) a .bir) (vsecAt (c .config) a .offset) (vsecAt (c .config) a .entries)
+      to-table = to-structure ∙ bir-either (vsecAt (c .config) a) (c .lo) (c .low) (c .hi) (c .high) n
+
+      -- the table has no entry, or ends inside
+      none-or-fits : Fits c a → (vsecAt (c .config) a .entries ≡ 0) ⊎ (vsecAt (c .config) a .offset + vsecAt (c .config) a .entries * 8 ≤ length (barAt c a))
+      none-or-fits f = by (eqb (vsecAt (c .config) a .entries) 0) refl
+        where
+          by : (t : Bool) → eqb (vsecAt (c .config) a .entries) 0 ≡ t
+              → (vsecAt (c .config) a .entries ≡ 0) ⊎ (vsecAt (c .config) a .offset + vsecAt (c .config) a .entries * 8 ≤ length (barAt c a))
+          by true e = inl (eqb-true _ _ e)
+          by false e = inr (f (eqb-false _ _ e))
+
+keeps-zero : (c : Capture) → Keeps c → numberOf c ≡ 0
+keeps-zero c k =
+    let v : Vsec = vsecAt (c .config) (k .place) in
+    number-zero c (to-table c (k .shaped) (k .vendor) (k .taken) (k .«named»)
+    ∙ table-sound (barAt c (k .place)) (v .bir) (v .offset) (v .entries) (none-or-fits c (k .shaped) (k .vendor) (k .taken) (k .«named») (k .fits))
+    (table-faults (barAt c (k .place)) (v .offset) (v .entries) .none .1 (k .clean)))
+
+-- a table that does not fit has entries, and ends past
+past : (c : Capture) (a : ℕ) → (Fits c a → ⊥) → (vsecAt (c .config) a .entries ≢ 0) × (length (barAt c a) < vsecAt (c .config) a .offset + vsecAt (c .config) a .entries * 8)
+past c a h = (λ z. h (λ k. absurd (k z)), by (ltb (length (barAt c a)) (vsecAt (c .config) a .offset + vsecAt (c .config) a .entries * 8)) refl)
+  where
+    by : (t : Bool) → ltb (length (barAt c a)) (vsecAt (c .config) a .offset + vsecAt (c .config) a .entries * 8) ≡ t
+        → length (barAt c a) < vsecAt (c .config) a .offset + vsecAt (c .config) a .entries * 8
+    by true e = ltb-true _ _ e
+    by false e = absurd (h (λ k. ltb-false _ _ e))
+
+early : (c : Capture) {n : ℕ} → beforeWalk (c .config) (c .lo) (c .hi) ≡ n → n ≢ 0 → numberOf c ≡ n
+early c e h = number-is c (refuses-early c (λ z. h (sym e ∙ z))) ∙ e
+
+breaks-number : (c : Capture) (n : ℕ) → Breaks c n → numberOf c ≡ n
+breaks-number c _ (shape h) = early c (early-one (c .config) (c .lo) (c .hi) (fails-exactly _ (shaped-exactly c) .1 h)) (λ z. omega arith)
+breaks-number c _ (vendor s h) = early c (early-two (c .config) (c .lo) (c .hi) (shaped-exactly c .1 s) h) (λ z. omega arith)
+breaks-number c _ (walk s v w) = number-is c (refuses-walk c (begins c s v) (walk-fact (c .config) _ .1 w))
+breaks-number c _ (bir {a} s v w h) =
+    number-is c (to-structure c s v w ∙ bir-neither (vsecAt (c .config) a) (c .lo) (c .low) (c .hi) (c .high) (λ e. h (inl e)) (λ e. h (inr e)))
+breaks-number c _ (table {a} s v w n h) =
+    let p = past c a h in number-is c (to-table c s v w n ∙ table-past (barAt c a) _ _ _ (p .0) (p .1))
+breaks-number c _ (entry {a} {k} {m} s v w n f l h e i) =
+    let faulty : faultsOf (barAt c a) (vsecAt (c .config) a .offset) (vsecAt (c .config) a .entries) ≡ m = table-faults (barAt c a) _ _ .some m h .1 (k, l, e, i) in
+    number-is c (to-table c s v w n ∙ table-fault (barAt c a) _ _ _ (none-or-fits c s v w n f) (λ z. h (sym faulty ∙ z)) ∙ ap refused faulty)
+
+-- ---- and every capture keeps the rules or breaks them
+
+Outcome : Capture → Type 0
+Outcome c = Keeps c ⊎ ((n : ℕ) × (n ≢ 0) × Breaks c n)
+
+module _ (c : Capture) (s : Shaped c) (v : Vendor c) {a : ℕ} (w : Ends (c .config) (gives (a ∷ []))) where
+  faults-say : Named c a → Fits c a → Outcome c
+  unfolding Outcome
+  faults-say n f = by (eqb (faultsOf (barAt c a) (vsecAt (c .config) a .offset) (vsecAt (c .config) a .entries)) 0) refl
+    where
+      by : (t : Bool) → eqb (faultsOf (barAt c a) (vsecAt (c .config) a .offset) (vsecAt (c .config) a .entries)) 0 ≡ t → Keeps c ⊎ ((n : ℕ) × (n ≢ 0) × Breaks c n)
+      by true e =
+          inl (record { shaped = s; vendor = v; place = a; taken = w; «named» = n; fits = f; clean = table-faults (barAt c a) _ _ .none .0 (eqb-true _ _ e) })
+      by false e =
+          let h = eqb-false _ _ e in
+          let r = table-faults (barAt c a) (vsecAt (c .config) a .offset) (vsecAt (c .config) a .entries) .some _ h .0 refl in
+          inr (_, h, entry s v w n f (r .1) h (r .2) (r .3))
+
+  table-says : Named c a → Outcome c
+  unfolding Outcome
+  table-says n = by (eqb (vsecAt (c .config) a .entries) 0) (ltb (length (barAt c a)) (vsecAt (c .config) a .offset + vsecAt (c .config) a .entries * 8)) refl refl
+    where
+      by : (z l : Bool) → eqb (vsecAt (c .config) a .entries) 0 ≡ z → ltb (length (barAt c a)) (vsecAt (c .config) a .offset + vsecAt (c .config) a .entries * 8) ≡ l → Keeps c ⊎ ((n : ℕ) × (n ≢ 0) × Breaks c n)
+      by true l z≡ l≡ = faults-say n (λ h. absurd (h (eqb-true _ _ z≡)))
+      by false false z≡ l≡ = faults-say n (λ h. ltb-false _ _ l≡)
+      by false true z≡ l≡ = inr (7, (λ z. omega arith), table s v w n (λ f. absurd (omega (arith, f (eqb-false _ _ z≡), ltb-true (length (barAt c a)) (vsecAt (c .config) a .offset + vsecAt (c .config) a .entries * 8) l≡))))
+
+  bir-says : Outcome c
+  unfolding Outcome
+  bir-says = by (eqb (vsecAt (c .config) a .bir) (c .lo)) (eqb (vsecAt (c .config) a .bir) (c .hi)) refl refl
+    where
+      by : (l h : Bool) → eqb (vsecAt (c .config) a .bir) (c .lo) ≡ l → eqb (vsecAt (c .config) a .bir) (c .hi) ≡ h → Keeps c ⊎ ((n : ℕ) × (n ≢ 0) × Breaks c n)
+      by true h l≡ h≡ = table-says (inl (eqb-true _ _ l≡))
+      by false true l≡ h≡ = table-says (inr (eqb-true _ _ h≡))
+      by false false l≡ h≡ = inr (6, (λ z. omega arith), bir s v w (λ n. ⊎-elim (eqb-false _ _ l≡) (eqb-false _ _ h≡) n))
+
+walk-says : (c : Capture) → Shaped c → Vendor c → (w : Answer) → Ends (c .config) w → Kept w → Outcome c
+unfolding Outcome
+walk-says c s v (refused n) e k = inr (n, (λ z. omega (arith, k .0)), walk s v e)
+walk-says c s v (gives []) e k = absurd k
+walk-says c s v (gives (a ∷ [])) e k = bir-says c s v e
+walk-says c s v (gives (a ∷ b ∷ bs)) e k = absurd k
+
+outcome : (c : Capture) → Outcome c
+unfolding Outcome
+outcome c = by (misshapen (length (c .config)) (c .lo) (c .hi)) (eqb (numberAt (c .config) 0 2) 0x8086) refl refl
+  where
+    by : (m n : Bool) → misshapen (length (c .config)) (c .lo) (c .hi) ≡ m → eqb (numberAt (c .config) 0 2) 0x8086 ≡ n → Keeps c ⊎ ((n : ℕ) × (n ≢ 0) × Breaks c n)
+    by true n m≡ n≡ = inr (1, (λ z. omega arith), shape (fails-exactly _ (shaped-exactly c) .0 m≡))
+    by false false m≡ n≡ = inr (2, (λ z. omega arith), vendor (shaped-exactly c .0 m≡) (eqb-false _ _ n≡))
+    by false true m≡ n≡ = walk-says c (shaped-exactly c .0 m≡) (eqb-true _ _ n≡) (walkOf (c .config)) (walk-fact (c .config) _ .0 refl) (walk-kept (c .config))
+
+pub discovery-fact : (c : Capture) → DiscoveryFact c
+unfolding Outcome
+discovery-fact c = record { accepted = (λ e. kept e (outcome c), keeps-zero c); refused-by = λ n h. (λ e. broken n h e (outcome c), breaks-number c n) }
+  where
+    kept : numberOf c ≡ 0 → Keeps c ⊎ ((n : ℕ) × (n ≢ 0) × Breaks c n) → Keeps c
+    kept e (inl k) = k
+    kept e (inr r) = absurd (r .1 (sym (breaks-number c (r .0) (r .2)) ∙ e))
+
+    broken : (n : ℕ) → n ≢ 0 → numberOf c ≡ n → Keeps c ⊎ ((n : ℕ) × (n ≢ 0) × Breaks c n) → Breaks c n
+    broken n h e (inl k) = absurd (h (sym e ∙ keeps-zero c k))
+    broken n h e (inr r) = subst (Breaks c) (sym (breaks-number c (r .0) (r .2)) ∙ e) (r .2)
+
+-- discovery gives no number above 11, so those of the lookups are told apart
+walk-small : (w : Answer) → Kept w → numberIn w ≤ 11
+walk-small (refused n) k = omega (arith, k .1)
+walk-small (gives vs) k = omega arith
+
+pub discovery-small : (c : Capture) → numberOf c ≤ 11
+unfolding numberOf beforeWalk birNumber tableNumber
+discovery-small c =
+    earliest-upto 11 _ _ (first-upto 11 _ tt) (earliest-upto 11 _ _ (walk-small (walkOf (c .config)) (walk-kept (c .config)))
+    (earliest-upto 11 _ _ (first-upto 11 _ tt) (earliest-upto 11 _ _ (first-upto 11 _ tt) (earliest-upto 11 _ _ (faults-small (barOf c) (tableOf c) (entriesOf c)) (omega (arith, earliest-end))))))

@@ -1,0 +1,2 @@
+pub mod DiscoveryLaws
+pub mod DiscoveryFact

@@ -1,0 +1,2 @@
+pub mod Discovery
+pub mod Facts
