@@ -94,7 +94,7 @@ fn write(
     number(b", limit ", limit as u64);
     field_name(which);
     number(b"", value);
-    outcome(limits::write::write(config, 0, low, 1, high, 0, n, limit, which, value));
+    outcome(writes::write::write(config, 0, low, 1, high, 0, n, limit, which, value));
 }
 
 // What both captures hold where the socket's first limit stands.

@@ -166,5 +166,5 @@ pub(crate) fn limit() {
     store_u64(&mut part, 0, 0x0000_03AF_0001_0201);
     store_u64(&mut part, 16, register);
     text(b"  with PWR_LIM_EN 0");
-    content(limits::next::next_in(&part, 0, 1, 2, 0));
+    content(writes::next::next_in(&part, 0, 1, 2, 0));
 }

@@ -8,10 +8,9 @@ use Rattle.words.specs.Bytes.{numberAt}
 use Rattle.words.specs.Fields.{field}
 use Rattle.domains.specs.Domains.{headerOf, headerIn, missing, unused, wrong, unsound, domainNumber, domainOf}
 use Rattle.domains.specs.Registers.{present, registerAt, absent, contentNumber, contentOf}
-use Rattle.domains.specs.Chains.{stepAt, climbFrom, chainOf}
 
 -- a block without FLAGS, its registers zeros: version, type, SIZE, parent
-abbrev block : ℕ → ℕ → ℕ → ℕ → List ℕ
+abbrev pub block : ℕ → ℕ → ℕ → ℕ → List ℕ
 block version kind size parent = version ∷ kind ∷ size ∷ parent ∷ replicate 124 0
 
 -- a package that is its own parent, with bit 2 of FLAGS; register 1 is 0x11, 2 is 0x22, 3 is 0x33, 9 is 0x99
@@ -19,7 +18,7 @@ abbrev top : List ℕ
 top = 1 ∷ 2 ∷ 1 ∷ 0 ∷ 4 ∷ replicate 3 0 ++ 0x11 ∷ replicate 7 0 ++ 0x22 ∷ replicate 7 0 ++ 0x33 ∷ replicate 47 0 ++ 0x99 ∷ replicate 55 0
 
 -- the package, a domain under it, one of type 0, a domain under that one, one of SIZE 2, one of version 2
-abbrev six : List ℕ
+abbrev pub six : List ℕ
 six = top ++ block 1 3 1 0 ++ block 1 0 1 0 ++ block 1 3 1 2 ++ block 1 3 2 0 ++ block 2 3 1 0
 
 -- version, type, SIZE, parent, FLAGS, reserved; the last lies past the end
@@ -46,13 +45,3 @@ registers = refl
 own-first : map (λ n. contentOf six n 16) (0 ∷ 2 ∷ 4 ∷ 6 ∷ []) ≡ refused 17 ∷ refused 15 ∷ refused 16 ∷ refused 12 ∷ []
 unfolding contentOf contentNumber earliest orElse absent domainNumber first missing unused unsound wrong headerIn headerOf numberAt field
 own-first = refl
-
--- a root has 0 steps; domain 2 has its own refusal, and domain 3, which is under it, 24
-chains : map (chainOf six) (0 ∷ 1 ∷ 2 ∷ 3 ∷ []) ≡ gives (0 ∷ []) ∷ gives (1 ∷ []) ∷ refused 15 ∷ refused 24 ∷ []
-unfolding chainOf climbFrom stepAt domainNumber first missing unused unsound wrong headerIn headerOf numberAt field
-chains = refl
-
--- two domains that name each other: a ring, given up after 255 steps
-ring : chainOf (block 1 3 1 1 ++ block 1 3 1 0) 0 ≡ refused 24
-unfolding chainOf climbFrom stepAt domainNumber first missing unused unsound wrong headerIn headerOf numberAt field
-ring = refl

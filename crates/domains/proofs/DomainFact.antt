@@ -13,12 +13,9 @@ use Rattle.words.specs.Tables.{fields}
 use Rattle.words.proofs.TableLaws.{fields-whole}
 use Rattle.words.proofs.TestLaws.{or-neither, or-either, or-second, fails-exactly, fails-else}
 use Rattle.words.proofs.Theorems.{exact-fact, unless-fact}
-use Rattle.discovery.specs.Discovery.{Capture}
-use Rattle.features.specs.Places.{instanceNumber}
 use Rattle.domains.specs.Domains.{widths, headerOf, headerIn, missing, unused, wrong, unsound, domainNumber, domainOf}
 use Rattle.domains.specs.Registers.{present, registerAt, absent, contentNumber, contentOf}
-use Rattle.domains.specs.Lookups.{domainFor, contentFor, chainFor}
-use Rattle.domains.specs.Facts.{HeaderFact, There, One, DomainFact, Present, RegisterFact, CaptureFact}
+use Rattle.domains.specs.Facts.{HeaderFact, There, One, DomainFact, Present, RegisterFact}
 use Rattle.domains.proofs.DomainLaws.{none-wrong, block-there, there, number-low}
 use Rattle.domains.proofs.RegisterLaws.{present-0, present-1, present-9, absent-17, absent-26, absent-none}
 
@@ -139,15 +136,3 @@ module _ (s : List ℕ) (n r : ℕ) where
           λ h. given (x ∷ []) .1 (two-zero _ _ .1 (h .0, none-exactly f r .1 (h .1, h .2)), ap (λ (y : ℕ). y ∷ []) (h .3)),
         );
       }
-
--- ---- over a capture
-
-pub capture-fact : (c : Capture) (i n r : ℕ) → CaptureFact c i n r
-unfolding domainFor contentFor chainFor
-capture-fact c i n r =
-    record {
-      handed-on = λ a h. unless-number (instanceNumber c 0 i) _ h;
-      domain = λ z. unless-passes _ z;
-      register = λ z. unless-passes _ z;
-      chain = λ z. unless-passes _ z;
-    }

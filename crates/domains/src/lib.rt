@@ -1,5 +1,3 @@
-// RAPL domains: headers and their lookup, registers, parent chains; in the bytes of an instance, and over a capture.
-pub mod chains;
+// RAPL domains in the bytes of an instance: headers and their lookup (`headers`), registers (`registers`). No call asks anything of its caller.
 pub mod headers;
-pub mod lookups;
 pub mod registers;

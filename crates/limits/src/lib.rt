@@ -1,6 +1,2 @@
-// Limits 1 and 2 of a domain, registers 2 and 3: the register as a value, what refuses a write of one field, what the register holds
-// next, and the write.
-pub mod fields;
+// Limits 1 and 2 of a domain, registers 2 and 3: the register as a value (`limit`). No call asks anything of its caller.
 pub mod limit;
-pub mod next;
-pub mod write;

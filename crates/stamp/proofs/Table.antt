@@ -20,9 +20,9 @@ use Rattle.windows.specs.Windows.{quartersOf, longEnough, placeOf, windowNumber
 use Rattle.domains.specs.Domains as domains
 use Rattle.domains.specs.Domains.{headerOf, headerIn, unused, wrong, domainNumber}
 use Rattle.domains.specs.Registers.{present, registerAt, absent, contentNumber, contentOf}
-use Rattle.domains.specs.Lookups.{contentFor}
-use Rattle.limits.specs.Writes as writes
-use Rattle.limits.specs.Writes.{widthOf, aLimit, unwritable, refusalOf, nextContent, nextNumber, nextOf, nextFor, writeNumber, barLeft, lowLeft, highLeft}
+use Rattle.rapl.specs.Lookups.{contentFor}
+use Rattle.writes.specs.Writes as writes
+use Rattle.writes.specs.Writes.{widthOf, aLimit, unwritable, refusalOf, nextContent, nextNumber, nextOf, nextFor, writeNumber, barLeft, lowLeft, highLeft}
 use Rattle.channel.specs.Channels.{inRange, isOpen, tests, values, taken}
 use Rattle.energy.specs.Hall.{testsOn, answerOn, leavesOn}
 use Rattle.stamp.specs.Table.{Row, sameNumbers, same, allSame, table, AllDue, SameFact, RowsFact, TableFact}

@@ -20,8 +20,8 @@ use Rattle.vsec.specs.Structure.{readOf}
 use Rattle.discovery.specs.Discovery.{Capture, captured, discoveryOf}
 use Rattle.features.specs.Places.{featureOf}
 use Rattle.windows.specs.Windows.{windowOf}
-use Rattle.domains.specs.Lookups.{contentFor}
-use Rattle.limits.specs.Writes.{nextFor, lowLeft, highLeft}
+use Rattle.rapl.specs.Lookups.{contentFor}
+use Rattle.writes.specs.Writes.{nextFor, lowLeft, highLeft}
 use Rattle.energy.specs.Hall.{Named, allClosed, answerOn, leavesAll}
 use Rattle.channel.specs.declared.calls.Call.{Call}
 use Rattle.channel.specs.declared.calls.Call.the-variants.{Open, Read, Ask}

@@ -1,0 +1,7 @@
+pub mod FieldLaws
+pub mod NextLaws
+pub mod WriteLaws
+pub mod NextFact
+pub mod WriteFact
+pub mod ReadBack
+pub mod Cases

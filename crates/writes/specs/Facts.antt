@@ -1,0 +1,87 @@
+-- What is proved of the write of one field, for every number, instance and capture. Each is to be read without its proof; the proofs stand
+-- under the same names with hyphens: proofs/NextFact.antt, proofs/WriteFact.antt, proofs/ReadBack.antt.
+-- Assumes nothing.
+use Prim.Native.Nat.{ℕ, _+_, _^_, _≤_, _<_}
+use mathlib.Core.Path.{_≡_}
+use mathlib.Core.List.{List, [], _∷_}
+use mathlib.Core.Logic.{_⊎_, _↔_, _≢_}
+use lib.ListN.{length, getD}
+use Rattle.words.specs.Answers.{refused, gives}
+use Rattle.words.specs.Bytes.{AllBytes, numberAt}
+use Rattle.words.specs.Fields.{field, bit}
+use Rattle.discovery.specs.Discovery.{Capture, captured, birOf, barOf}
+use Rattle.features.specs.Places.{startFor, sizeFor, instancePart}
+use Rattle.domains.specs.Domains.{headerIn, domainNumber}
+use Rattle.domains.specs.Facts.{Sound, Present}
+use Rattle.rapl.specs.Lookups.{domainFor, contentFor}
+use Rattle.domains.specs.Registers.{registerAt}
+use Rattle.writes.specs.Writes.{placeOf, widthOf, nextContent, nextOf, nextFor, writeNumber, limitPlace, barLeft, lowLeft, highLeft}
+
+-- ---- what refuses a write, and what the register holds next
+
+-- limit 1 or limit 2
+abbrev pub ALimit : ℕ → Type 0
+ALimit limit = (limit ≡ 1) ⊎ (limit ≡ 2)
+
+-- one of the four fields, and not TIME_WINDOW of limit 2 in a package domain
+abbrev pub Writable : ℕ → ℕ → ℕ → Type 0
+Writable kind limit which = (which ≤ 3) × ((which ≡ 1) × (limit ≡ 2) × (kind ≡ 2) → ⊥)
+
+-- the field stands open to a write: all but the number and LOCK
+pub record Open (s : List ℕ) (n limit which : ℕ) : Type 0 where
+  pub sound : Sound s n
+  pub a-limit : ALimit limit
+  pub present : Present (headerIn s n .flags) (limit + 1)
+  pub writable : Writable (headerIn s n .kind) limit which
+
+-- bit 63 of the limit's register is 1
+abbrev pub Locked : List ℕ → ℕ → ℕ → Type 0
+Locked s n limit = bit 63 (registerAt s n (limit + 1)) ≡ 1
+
+-- Complete and first wins, in the order 26, 27, 17, 18 after the domain's lookup: each number exactly on its condition and none tested before
+-- it (26 is not tested for a number that is no limit's), and the next content exactly where none is.
+pub record NextFact (s : List ℕ) (n limit which value : ℕ) : Type 0 where
+  pub handed-on : domainNumber s n ≢ 0 → nextOf s n limit which value ≡ refused (domainNumber s n)
+  pub absent : (nextOf s n limit which value ≡ refused 26) ↔ (Sound s n × ALimit limit × (Present (headerIn s n .flags) (limit + 1) → ⊥))
+  pub unwritable : (nextOf s n limit which value ≡ refused 27)
+      ↔ (Sound s n × (ALimit limit → Present (headerIn s n .flags) (limit + 1)) × (ALimit limit × Writable (headerIn s n .kind) limit which → ⊥))
+  pub wide : (nextOf s n limit which value ≡ refused 17) ↔ (Open s n limit which × (2 ^ widthOf which ≤ value))
+  pub locked : (nextOf s n limit which value ≡ refused 18) ↔ (Open s n limit which × (value < 2 ^ widthOf which) × Locked s n limit)
+  pub content : (y : ℕ) → (nextOf s n limit which value ≡ gives (y ∷ []))
+      ↔ (Open s n limit which × (value < 2 ^ widthOf which) × (Locked s n limit → ⊥) × (nextContent s n limit which value ≡ y))
+
+-- ---- the write
+
+-- Which of the two captures changes: none where it is refused; else the one that tBIR names, and the other is as it was.
+pub record CapturesFact (c : Capture) (i n limit which value : ℕ) : Type 0 where
+  pub refused-kept : writeNumber c i n limit which value ≢ 0 → (lowLeft c i n limit which value ≡ c .low) × (highLeft c i n limit which value ≡ c .high)
+  pub in-low : birOf c ≡ c .lo → (lowLeft c i n limit which value ≡ barLeft c i n limit which value) × (highLeft c i n limit which value ≡ c .high)
+  pub in-high : birOf c ≢ c .lo → (lowLeft c i n limit which value ≡ c .low) × (highLeft c i n limit which value ≡ barLeft c i n limit which value)
+  -- the answer is that of the next content, and the write is permitted exactly where one is given
+  pub same-answer : (writeNumber c i n limit which value ≡ 0) ↔ ((y : ℕ) × (nextFor c i n limit which value ≡ gives (y ∷ [])))
+  pub same-number : (m : ℕ) → m ≢ 0 → (writeNumber c i n limit which value ≡ m) ↔ (nextFor c i n limit which value ≡ refused m)
+
+-- A permitted write stores its number and changes nothing else: the field reads back as the number; every other bit of the register, and
+-- every other byte of the capture, is as it was; the register lies inside the instance.
+pub record Stored (c : Capture) (i n limit which value : ℕ) : Type 0 where
+  pub reads : field (placeOf which) (widthOf which) (numberAt (barLeft c i n limit which value) (limitPlace c i n limit) 8) ≡ value
+  pub bits : (k : ℕ) → (k < placeOf which) ⊎ (placeOf which + widthOf which ≤ k)
+      → bit k (numberAt (barLeft c i n limit which value) (limitPlace c i n limit) 8) ≡ bit k (numberAt (barOf c) (limitPlace c i n limit) 8)
+  pub bytes : (k : ℕ) → (k < limitPlace c i n limit) ⊎ (limitPlace c i n limit + 8 ≤ k) → getD (barLeft c i n limit which value) k 0 ≡ getD (barOf c) k 0
+  pub size : length (barLeft c i n limit which value) ≡ length (barOf c)
+  pub inside : limitPlace c i n limit + 8 ≤ startFor c 0 i + sizeFor c 0
+  pub whole : startFor c 0 i + sizeFor c 0 ≤ length (barOf c)
+
+-- (That the BAR capture is a list of bytes is what its type says.)
+abbrev pub WriteFact : Capture → ℕ → ℕ → ℕ → ℕ → ℕ → Type 0
+WriteFact c i n limit which value = AllBytes (barOf c) → writeNumber c i n limit which value ≡ 0 → Stored c i n limit which value
+
+-- Read back by the meter's own calls: the capture that a permitted write leaves is looked up afresh, the domain is found in it as before,
+-- and the limit's register is read as the next content.
+abbrev pub left : Capture → ℕ → ℕ → ℕ → ℕ → ℕ → Capture
+left c i n limit which value = captured (c .config) (c .lo) (lowLeft c i n limit which value) (c .hi) (highLeft c i n limit which value)
+
+abbrev pub ReadBack : Capture → ℕ → ℕ → ℕ → ℕ → ℕ → Type 0
+ReadBack c i n limit which value = AllBytes (barOf c) → writeNumber c i n limit which value ≡ 0
+    → (domainFor (left c i n limit which value) i n ≡ domainFor c i n)
+    × (contentFor (left c i n limit which value) i n (limit + 1) ≡ gives (nextContent (instancePart c 0 i) n limit which value ∷ []))

@@ -1,0 +1,56 @@
+// What a limit's register holds next, after a write of one field: in the bytes of an instance, and over a capture. Nothing is stored.
+ghost use mathlib.Core.Path.{_≡_};
+ghost use Rattle.discovery.specs.Discovery.{captured};
+ghost use Rattle.places.specs.Told.{valued};
+ghost use Rattle.writes.specs.Writes.{nextOf, nextFor};
+use crate::fields::refusal;
+use crate::fields::span_of;
+use domains::headers::Known;
+use domains::headers::domain_in;
+use domains::headers::number_of;
+use features::instances::instance_place;
+use places::found::Found;
+use places::found::Value;
+use places::found::part_of;
+use words::bytes::u64_at;
+use words::fields::with_field;
+
+// The whole instance is handed in, not the register alone: what is stored may come to hang on other registers of the domain.
+pub fn next_in(s: &[u8], n: u64, limit: u32, which: u32, value: u64) -> Value
+    ensures answer { λ r. ⌜ valued r ≡ nextOf (now (s .entry)) n limit which value ⌝ }
+{
+    let known = domain_in(s, n);
+    let Known::Domain(h) = known else {
+        return Value::Refused(number_of(known));
+    };
+    let at = n as usize * 128 + (limit as usize + 1) * 8;
+    let x = u64_at(s, at);
+    let number = refusal(h, limit, which, value, x);
+    if number != 0 {
+        return Value::Refused(number);
+    }
+    let f = span_of(which);
+    Value::Is(with_field(x, f.at, f.width, value))
+}
+
+// The next content of the register of limit 1 or 2 of domain n.
+pub fn next<'a>(
+    config: &[u8],
+    lo: u8,
+    low: &'a [u8],
+    hi: u8,
+    high: &'a [u8],
+    i: usize,
+    n: u64,
+    limit: u32,
+    which: u32,
+    value: u64,
+) -> Value
+    ensures answer { λ r. ⌜ valued r ≡ nextFor (captured (now (config .entry)) lo (now (low .entry)) hi (now (high .entry))) i n limit which value ⌝ }
+{
+    let found = instance_place(config, lo, low, hi, high, 0, i);
+    let Found::At(p) = found else {
+        return Value::Refused(places::found::number_of(found));
+    };
+    next_in(part_of(p, lo, low, high), n, limit, which, value)
+}
