@@ -1,7 +1,7 @@
 // How a line is written: words, numbers, bytes, and what each answer says.
+use libc::STDOUT_FILENO;
 use places::found::Found;
 use places::found::Value;
-use libc::STDOUT_FILENO;
 use words::bytes::u8_at;
 
 pub(crate) fn text(words: &[u8]) {

@@ -8,7 +8,6 @@ use Rattle.discovery.specs.Discovery.{Capture, barOf}
 use Rattle.features.specs.Places.{bankFor, sizeFor, featureNumber, featureOf}
 use Rattle.counts.specs.Valid.{validCountIn, countOf}
 
-
 module _ (c : Capture) where
   pub count-refused : (id : ℕ) {m : ℕ} → featureOf c id ≡ refused m → countOf c id ≡ refused m
   unfolding featureOf countOf

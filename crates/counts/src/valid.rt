@@ -3,17 +3,17 @@ ghost use mathlib.Core.Path.{_≡_};
 ghost use mathlib.Core.Bool.{not};
 ghost use Prim.Native.Nat.{_*_, _≤_, _<_};
 ghost use Rattle.words.specs.Masks.{maskOf, onwards};
-ghost use Rattle.entries.specs.Faults.{bankIn};
+ghost use Rattle.banks.specs.Faults.{bankIn};
 ghost use Rattle.discovery.specs.Discovery.{captured};
 ghost use Rattle.features.specs.Places.{invalidAt};
 ghost use Rattle.counts.specs.Valid.{validIn, validCountIn, countOf};
 ghost use Rattle.places.specs.Told.{valued};
+use banks::faults::bank_in;
 use features::instances::feature;
 use places::found::Found;
 use places::found::Value;
 use places::found::bar_of;
 use places::found::number_of;
-use entries::faults::bank_in;
 use words::bytes::u64_at;
 
 // The 8 bytes at a place are not all ones.

@@ -13,13 +13,13 @@ use Rattle.words.specs.Answers.{Answer, refused, gives, numberIn}
 use Rattle.words.specs.Bytes.{numberAt}
 use Rattle.words.proofs.TestLaws.{as-must, or-skip, or-neither, fails-exactly}
 use Rattle.words.proofs.AnswerLaws.{unless-gives, unless-refused, earliest-upto, first-upto, earliest-end}
-use Rattle.vsec.specs.Facts.{Ends}
+use Rattle.walk.specs.Facts.{Ends}
 use Rattle.vsec.specs.Structure.{vsecAt}
-use Rattle.vsec.specs.Walk.{walkOf}
+use Rattle.walk.specs.Walk.{walkOf}
 use Rattle.vsec.specs.declared.structure.Vsec.{Vsec}
-use Rattle.vsec.proofs.WalkFact.{walk-fact, walk-kept, Kept}
-use Rattle.entries.specs.Faults.{faultsOf}
-use Rattle.entries.proofs.FaultFact.{table-faults, faults-small}
+use Rattle.walk.proofs.WalkFact.{walk-fact, walk-kept, Kept}
+use Rattle.banks.specs.Faults.{faultsOf}
+use Rattle.banks.proofs.FaultFact.{table-faults, faults-small}
 use Rattle.discovery.specs.Discovery.{Capture, misshapen, beforeWalk, tableIn, structureIn, numberOf, discoveryOf, birNumber, tableNumber, barOf, tableOf, entriesOf}
 use Rattle.discovery.specs.Facts.{Shaped, Vendor, barAt, Named, Fits, Keeps, Breaks, DiscoveryFact}
 use Rattle.discovery.specs.Facts.Breaks.{shape, vendor, walk, bir, table, entry}

@@ -14,11 +14,11 @@ use Rattle.words.proofs.TestLaws.{as-must, not-as-must, and-first, and-second, 
 use Rattle.words.proofs.AnswerLaws.{unless-number, first-skip, first-take, first-end, earliest-stop, earliest-last, stage-passes, earliest-zero}
 use Rattle.vsec.specs.Facts.{Narrow}
 use Rattle.vsec.specs.Structure.{vsecAt}
-use Rattle.vsec.specs.Walk.{walkOf}
+use Rattle.walk.specs.Walk.{walkOf}
 use Rattle.vsec.specs.declared.structure.Vsec.{Vsec}
 use Rattle.vsec.proofs.Theorems.{narrow-at}
-use Rattle.vsec.proofs.WalkFact.{Kept, walk-kept}
-use Rattle.entries.specs.Faults.{faultsOf}
+use Rattle.walk.proofs.WalkFact.{Kept, walk-kept}
+use Rattle.banks.specs.Faults.{faultsOf}
 use Rattle.discovery.specs.Discovery.{Capture, misshapen, beforeWalk, birNumber, tableNumber, tableIn, structureIn, structureOf, birOf, tableOf, entriesOf, barOf, numberOf, discoveryOf}
 use Rattle.places.specs.Parts.{named}
 use Rattle.places.specs.Told.{placed}

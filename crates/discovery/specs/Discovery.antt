@@ -16,9 +16,9 @@ use lib.ListN.{length}
 use Rattle.words.specs.Answers.{Answer, gives, unless, numberIn, valueIn, first, earliest}
 use Rattle.words.specs.Bytes.{numberAt}
 use Rattle.vsec.specs.Structure.{vsecAt}
-use Rattle.vsec.specs.Walk.{walkOf}
+use Rattle.walk.specs.Walk.{walkOf}
 use Rattle.vsec.specs.declared.structure.Vsec.{Vsec}
-use Rattle.entries.specs.Faults.{faultsOf}
+use Rattle.banks.specs.Faults.{faultsOf}
 use Rattle.places.specs.Parts.{named}
 
 pub record Capture : Type 0 where

@@ -8,10 +8,10 @@ use mathlib.Core.List.{List, [], _∷_}
 use lib.ListN.{length}
 use Rattle.words.specs.Answers.{refused, gives}
 use Rattle.words.specs.Bytes.{numberAt}
-use Rattle.vsec.specs.Facts.{Ends}
+use Rattle.walk.specs.Facts.{Ends}
 use Rattle.vsec.specs.Structure.{vsecAt}
-use Rattle.entries.specs.Faults.{bankIn, faultAt}
-use Rattle.entries.specs.Facts.{Filled, Clean}
+use Rattle.banks.specs.Faults.{bankIn, faultAt}
+use Rattle.banks.specs.Facts.{Filled, Clean}
 use Rattle.discovery.specs.Discovery.{Capture, numberOf}
 use Rattle.places.specs.Parts.{named}
 

@@ -2,17 +2,17 @@
 ghost use mathlib.Core.Path.{_≡_};
 ghost use Rattle.words.specs.Answers.{numberIn};
 ghost use Rattle.vsec.specs.Facts.{Narrow};
-ghost use Rattle.vsec.specs.Told.{walked};
+ghost use Rattle.walk.specs.Told.{walked};
 ghost use Rattle.discovery.specs.Discovery.{captured, misshapen, beforeWalk, tableIn, structureIn, discoveryOf};
 ghost use Rattle.places.specs.Told.{told};
+use banks::faults::faults;
 use places::found::Found;
 use places::found::Place;
 use places::found::bar_of;
-use entries::faults::faults;
 use vsec::structure::Vsec;
 use vsec::structure::vsec_at;
-use vsec::walk::Walked;
-use vsec::walk::walk;
+use walk::capabilities::Walked;
+use walk::capabilities::walk;
 use words::bytes::u16_at;
 
 // The configuration space is not 4,096 bytes, a BAR number is above 5, or the two are equal.

@@ -1,4 +1,3 @@
 pub mod Entry
 pub mod Told
-pub mod Faults
 pub mod Facts

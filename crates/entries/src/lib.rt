@@ -1,3 +1,2 @@
-// PFS entries: one entry as a value, read and written (`entry`), and the faults of a table of them (`faults`).
+// PFS entries, 8 bytes each, read and written (`entry`). No call asks anything of its caller.
 pub mod entry;
-pub mod faults;

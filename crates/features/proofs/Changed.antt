@@ -12,12 +12,12 @@ use lib.ListN.{length, take, drop}
 use Rattle.words.specs.Answers.{numberIn, first, earliest}
 use Rattle.words.specs.Bytes.{numberAt}
 use Rattle.words.proofs.BelowLaws.{least-same}
-use Rattle.vsec.specs.Walk.{walkOf}
-use Rattle.entries.specs.Faults.{bankIn, emptyBank}
-use Rattle.entries.specs.Facts.{Shared}
-use Rattle.entries.specs.declared.faults.Bank.{Bank}
-use Rattle.entries.proofs.FaultFact.{table-faults}
-use Rattle.entries.proofs.SameTable.{bank-same, faults-same}
+use Rattle.walk.specs.Walk.{walkOf}
+use Rattle.banks.specs.Faults.{bankIn, emptyBank}
+use Rattle.banks.specs.Facts.{Shared}
+use Rattle.banks.specs.declared.faults.Bank.{Bank}
+use Rattle.banks.proofs.FaultFact.{table-faults}
+use Rattle.banks.proofs.SameTable.{bank-same, faults-same}
 use Rattle.discovery.specs.Discovery.{Capture, captured, structureOf, birOf, barOf, tableOf, entriesOf, beforeWalk, birNumber, tableNumber, numberOf}
 use Rattle.features.specs.Places.{holds, indexIn, missing, bankFor, sizeFor, featureNumber, startFor, invalidAt, unsound, instanceNumber, instancePart}
 use Rattle.features.proofs.PlaceLaws.{part-found}

@@ -12,9 +12,9 @@ use lib.ListN.{length}
 use Rattle.words.proofs.TestLaws.{and-both}
 use Rattle.words.proofs.AnswerLaws.{first-zero, earliest-zero}
 use Rattle.words.proofs.BelowLaws.{is-least}
-use Rattle.entries.specs.Faults.{bankIn, emptyBank}
-use Rattle.entries.specs.Facts.{Filled}
-use Rattle.entries.proofs.FaultFact.{filled-exactly, table-faults}
+use Rattle.banks.specs.Faults.{bankIn, emptyBank}
+use Rattle.banks.specs.Facts.{Filled}
+use Rattle.banks.proofs.FaultFact.{filled-exactly, table-faults}
 use Rattle.discovery.specs.Discovery.{Capture, barOf, tableOf, entriesOf, numberOf}
 use Rattle.features.specs.Places.{holds, indexIn, missing, bankFor, sizeFor, featureNumber, startFor, invalidAt, unsound, instanceNumber, instancePart}
 use Rattle.places.specs.Parts.{piece, partOf}

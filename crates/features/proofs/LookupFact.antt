@@ -16,9 +16,9 @@ use Rattle.words.proofs.AnswerLaws.{earliest-stop, earliest-upto, earliest-end,
 use Rattle.words.proofs.BelowLaws.{is-least}
 use Rattle.words.proofs.NumberLaws.{number-ones, ones-number}
 use Rattle.words.proofs.Theorems.{exact-fact}
-use Rattle.entries.specs.Faults.{bankIn, emptyBank}
-use Rattle.entries.specs.Facts.{Filled, Shared}
-use Rattle.entries.proofs.FaultFact.{filled-exactly, table-faults}
+use Rattle.banks.specs.Faults.{bankIn, emptyBank}
+use Rattle.banks.specs.Facts.{Filled, Shared}
+use Rattle.banks.proofs.FaultFact.{filled-exactly, table-faults}
 use Rattle.discovery.specs.Discovery.{Capture, barOf, tableOf, entriesOf}
 use Rattle.features.specs.Places.{holds, indexIn, missing, bankFor, sizeFor, featureNumber, startFor, invalidAt, unsound, instanceNumber, instancePart}
 use Rattle.features.specs.Facts.{Has, Ones, LookupFact, PlaceFact, ApartFact}

@@ -9,8 +9,8 @@ use lib.ListN.{take, drop}
 use Rattle.words.specs.Answers.{refused, gives, unless}
 use Rattle.words.specs.Bytes.{numberAt}
 use Rattle.words.proofs.AnswerLaws.{first-skip, first-take, first-end, stage-passes, stage-last, unless-refused}
-use Rattle.entries.specs.Faults.{bankIn}
-use Rattle.entries.proofs.FaultLaws.{Bounded, bank-bounded}
+use Rattle.banks.specs.Faults.{bankIn}
+use Rattle.banks.proofs.FaultLaws.{Bounded, bank-bounded}
 use Rattle.discovery.specs.Discovery.{Capture, birOf, barOf, tableOf, entriesOf, numberOf}
 use Rattle.places.specs.Parts.{named}
 use Rattle.features.specs.Places.{indexIn, missing, featureIn, bankFor, sizeFor, featureNumber, featureOf, startFor, invalidAt, unsound, instanceIn, Roomy, instanceNumber, instanceOf, instancePart}

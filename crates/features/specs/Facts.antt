@@ -7,8 +7,8 @@ use mathlib.Core.Logic.{_↔_, _≢_}
 use mathlib.Core.List.{[]}
 use lib.ListN.{length, getD, take, drop}
 use Rattle.words.specs.Bytes.{AllBytes}
-use Rattle.entries.specs.Faults.{bankIn}
-use Rattle.entries.specs.Facts.{Filled, Shared}
+use Rattle.banks.specs.Faults.{bankIn}
+use Rattle.banks.specs.Facts.{Filled, Shared}
 use Rattle.discovery.specs.Discovery.{Capture, barOf, tableOf, entriesOf, numberOf}
 use Rattle.features.specs.Places.{bankFor, sizeFor, featureNumber, startFor, instanceNumber, instancePart}
 

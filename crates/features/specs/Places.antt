@@ -16,8 +16,8 @@ use lib.ListN.{take, drop}
 use Rattle.words.specs.Answers.{Answer, gives, unless, first, earliest}
 use Rattle.words.specs.Below.{least}
 use Rattle.words.specs.Bytes.{numberAt}
-use Rattle.entries.specs.Faults.{bankIn, emptyBank}
-use Rattle.entries.specs.declared.faults.Bank.{Bank}
+use Rattle.banks.specs.Faults.{bankIn, emptyBank}
+use Rattle.banks.specs.declared.faults.Bank.{Bank}
 use Rattle.places.specs.declared.found.Place.{Place}
 use Rattle.discovery.specs.Discovery.{Capture, birOf, barOf, tableOf, entriesOf, numberOf}
 

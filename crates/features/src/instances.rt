@@ -2,19 +2,19 @@
 ghost use mathlib.Core.Path.{_≡_};
 ghost use mathlib.Core.Bool.{not, _&&_};
 ghost use lib.Dec.{eqb};
-ghost use Rattle.entries.specs.Faults.{emptyBank};
+ghost use Rattle.banks.specs.Faults.{emptyBank};
 ghost use Rattle.discovery.specs.Discovery.{captured};
 ghost use Rattle.features.specs.Places.{Roomy, indexIn, featureIn, featureOf, instanceIn, instanceOf, instanceNumber, instancePart};
 ghost use Rattle.places.specs.Told.{told};
+use banks::faults::Bank;
+use banks::faults::bank_in;
+use banks::faults::empty;
 use discovery::table::discover;
 use places::found::Found;
 use places::found::Place;
 use places::found::bar_of;
 use places::found::number_of;
 use places::found::part_of;
-use entries::faults::Bank;
-use entries::faults::bank_in;
-use entries::faults::empty;
 use words::bytes::u64_at;
 
 // The bank is that of the feature.

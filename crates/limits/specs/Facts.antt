@@ -4,7 +4,6 @@ use Rattle.words.specs.Facts.{WordTrips}
 use Rattle.limits.specs.Limit.{widths, limitOf, values}
 use Rattle.limits.specs.declared.limit.Limit.{Limit}
 
-
 -- Writing (`writtenOf l`): 17 exactly if a number does not fit; a content is given exactly if it has 64 bits and says this limit; one of
 -- the two always comes. So a register read and written back is the same 64 bits, reserved ones too, and a limit written and read back is
 -- the same.

@@ -1,4 +1,2 @@
-pub mod LayoutLaws
 pub mod LineLaws
-pub mod LayoutFact
 pub mod Told

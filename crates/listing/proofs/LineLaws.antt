@@ -4,12 +4,12 @@ use mathlib.Core.Path.{_≡_}
 use mathlib.Core.Bool.{true, false}
 use mathlib.Core.List.{List, [], _∷_}
 use Rattle.words.specs.Bytes.{numberAt}
-use Rattle.entries.specs.Faults.{bankIn, emptyBank}
-use Rattle.entries.specs.declared.faults.Bank.{Bank}
+use Rattle.banks.specs.Faults.{bankIn, emptyBank}
+use Rattle.banks.specs.declared.faults.Bank.{Bank}
 use Rattle.places.specs.Parts.{named}
 use Rattle.discovery.specs.Discovery.{discoveryOf}
 use Rattle.counts.specs.Valid.{validCountIn}
-use Rattle.listing.specs.Layout.{readable, lowIn, highIn}
+use Rattle.captures.specs.Layout.{readable, lowIn, highIn}
 use Rattle.listing.specs.Lines.{unreadable, answers, captureIn, listingOf, barIn, lineOf}
 
 module _ (s : List ℕ) where

@@ -6,25 +6,11 @@ use lib.ListN.{getD}
 use Rattle.words.specs.Answers.{refused, gives}
 use Rattle.words.proofs.AnswerLaws.{once}
 use Rattle.listing.specs.Lines.{Said, unreadable, answers}
-use Rattle.listing.specs.Told.{laid, listed, said}
-use Rattle.listing.specs.declared.layout.Laid.{Laid}
-use Rattle.listing.specs.declared.layout.Laid.the-variants as lay
+use Rattle.listing.specs.Told.{listed, said}
 use Rattle.listing.specs.declared.lines.Listing.{Listing}
 use Rattle.listing.specs.declared.lines.Listing.the-variants.{Unreadable, Refused, Table}
 use Rattle.listing.specs.declared.lines.Line.{Line}
 use Rattle.listing.specs.declared.lines.Line.the-variants.{Says, Nothing}
-
-unlaid : List ℕ → Laid
-unlaid [] = lay.Unreadable
-unlaid (a ∷ l) = lay.Out (record { lo = a; «low_end» = getD l 0 0; hi = getD l 1 0; «high_end» = getD l 2 0 })
-
-pub laid-once : (a b : Laid) → laid a ≡ laid b → a ≡ b
-unfolding unlaid
-laid-once = once laid unlaid back
-  where
-    back : (a : Laid) → unlaid (laid a) ≡ a
-    back (lay.Out l) = refl
-    back lay.Unreadable = refl
 
 unlisted : Said → Listing
 unlisted unreadable = Unreadable

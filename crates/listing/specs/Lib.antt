@@ -1,4 +1,2 @@
-pub mod Layout
 pub mod Lines
 pub mod Told
-pub mod Facts

@@ -11,11 +11,11 @@ use mathlib.Core.Bool.{cond}
 use mathlib.Core.List.{List, [], _∷_}
 use Rattle.words.specs.Answers.{Answer}
 use Rattle.words.specs.Bytes.{numberAt}
-use Rattle.entries.specs.Faults.{bankIn, emptyBank}
+use Rattle.banks.specs.Faults.{bankIn, emptyBank}
 use Rattle.discovery.specs.Discovery.{Capture, captured, discoveryOf}
 use Rattle.places.specs.Parts.{named}
 use Rattle.counts.specs.Valid.{validCountIn}
-use Rattle.listing.specs.Layout.{readable, middleOf, configIn, lowIn, highIn}
+use Rattle.captures.specs.Layout.{readable, middleOf, configIn, lowIn, highIn}
 
 pub data Said : Type 0 where
   unreadable : Said

@@ -4,16 +4,10 @@ use Prim.Native.Nat.{ℕ}
 use mathlib.Core.List.{List, [], _∷_}
 use Rattle.words.specs.Answers.{refused, gives}
 use Rattle.listing.specs.Lines.{Said, unreadable, answers}
-use Rattle.listing.specs.declared.layout.Laid.{Laid}
-use Rattle.listing.specs.declared.layout.Laid.the-variants as lay
 use Rattle.listing.specs.declared.lines.Listing.{Listing}
 use Rattle.listing.specs.declared.lines.Listing.the-variants.{Unreadable, Refused, Table}
 use Rattle.listing.specs.declared.lines.Line.{Line}
 use Rattle.listing.specs.declared.lines.Line.the-variants.{Says, Nothing}
-
-abbrev pub laid : Laid → List ℕ
-laid (lay.Out l) = l .lo ∷ l .«low_end» ∷ l .hi ∷ l .«high_end» ∷ []
-laid lay.Unreadable = []
 
 -- a table is told as discovery tells it, with entries of 8 bytes
 abbrev pub listed : Listing → Said

@@ -1,3 +1,2 @@
-// What the program `list` says of its input: how the input is laid out (`layout`), and what each line says (`lines`).
-pub mod layout;
+// What each line of a listing says (`lines`). No call asks anything of its caller.
 pub mod lines;

@@ -2,18 +2,18 @@
 ghost use mathlib.Core.Path.{_≡_};
 ghost use Rattle.listing.specs.Lines.{listingOf, barIn, lineOf};
 ghost use Rattle.listing.specs.Told.{listed, said};
-use crate::layout::Laid;
-use crate::layout::config_in;
-use crate::layout::high_in;
-use crate::layout::layout_of;
-use crate::layout::low_in;
-use entries::faults::bank_in;
-use entries::faults::empty;
+use banks::faults::bank_in;
+use banks::faults::empty;
+use captures::layout::Laid;
+use captures::layout::config_in;
+use captures::layout::high_in;
+use captures::layout::layout_of;
+use captures::layout::low_in;
+use counts::valid::valid_in;
 use discovery::table::discover;
 use places::found::Found;
 use places::found::bar_of;
 use places::found::number_of;
-use counts::valid::valid_in;
 
 // The table that an accepted input has: its place in the BAR capture with the number `bir`, and how many entries.
 pub struct Table {

@@ -8,7 +8,6 @@ use Rattle.words.specs.Answers.{gives, unless}
 use Rattle.places.specs.Parts.{piece}
 use Rattle.places.specs.Told.{placed}
 use Rattle.places.specs.declared.found.Place.{Place}
-
 use Rattle.words.proofs.AnswerLaws.{unless-gives}
 
 -- ---- a piece of a list

@@ -6,7 +6,6 @@ use Rattle.features.specs.Places.{instanceNumber}
 use Rattle.rapl.specs.Lookups.{domainFor, contentFor, chainFor}
 use Rattle.rapl.specs.Facts.{CaptureFact}
 
-
 pub capture-fact : (c : Capture) (i n r : ℕ) → CaptureFact c i n r
 unfolding domainFor contentFor chainFor
 capture-fact c i n r =

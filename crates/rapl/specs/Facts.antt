@@ -12,7 +12,6 @@ use Rattle.domains.specs.Domains.{domainNumber, domainOf}
 use Rattle.domains.specs.Registers.{contentOf}
 use Rattle.rapl.specs.Chains.{parentOf, chainOf}
 use Rattle.rapl.specs.Lookups.{instanceOr, domainFor, contentFor, chainFor}
-
 use Rattle.domains.specs.Facts.{Sound}
 
 -- ---- parent chains

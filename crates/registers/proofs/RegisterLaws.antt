@@ -17,7 +17,6 @@ use Rattle.places.specs.Told.{placed}
 use Rattle.places.specs.declared.found.Place.{Place}
 use Rattle.places.proofs.PartLaws.{Placed, placed-is}
 
-
 -- ---- an offset into an instance
 
 module _ (size offset : ℕ) where

@@ -17,7 +17,6 @@ use Rattle.registers.proofs.RegisterLaws.{outside-room, outside-none}
 use Rattle.registers.specs.Facts.{RegisterPlaceFact}
 use Rattle.features.proofs.LookupFact.{instance-small}
 
-
 outside-exactly : (size offset : ℕ) → ((not (eqb (offset % 8) 0) || ltb size (offset + 8)) ≡ false) ↔ ((offset % 8 ≡ 0) × (offset + 8 ≤ size))
 unfolding outside
 outside-exactly size offset = (λ e. outside-room size offset (first-skip _ _ e ∙ first-end), λ h. or-skip _ (as-must (h .0)) ∙ le-ltb _ _ (h .1))

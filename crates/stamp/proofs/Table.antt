@@ -11,9 +11,9 @@ use Rattle.words.specs.Bytes.{numberAt, put}
 use Rattle.words.specs.Fields.{field, withField}
 use Rattle.words.proofs.TestLaws.{and-both, and-holds}
 use Rattle.vsec.specs.Structure.{vsecOf, vsecAt, fixedWrong, readNumber, readOf}
-use Rattle.vsec.specs.Walk.{identifierAt, nextAt, vsecIdAt, followed, takenAt, headerAt, walkFrom, emptyList, walkOf}
+use Rattle.walk.specs.Walk.{identifierAt, nextAt, vsecIdAt, followed, takenAt, headerAt, walkFrom, emptyList, walkOf}
 use Rattle.entries.specs.Entry.{entryOf, entryAt}
-use Rattle.entries.specs.Faults.{bankOf, bankIn, emptyBank, repeats, meets, faultAt, faultsOf}
+use Rattle.banks.specs.Faults.{bankOf, bankIn, emptyBank, repeats, meets, faultAt, faultsOf}
 use Rattle.discovery.specs.Discovery.{structureOf, barOf, misshapen, beforeWalk, birNumber, tableNumber, numberOf, discoveryOf}
 use Rattle.features.specs.Places.{indexIn, missing, bankFor, featureNumber, featureOf, invalidAt, unsound, instanceNumber, instancePart}
 use Rattle.windows.specs.Windows.{quartersOf, longEnough, placeOf, windowNumber, windowOf}

@@ -16,13 +16,11 @@ use Rattle.words.proofs.TableLaws.{fit-append}
 use Rattle.words.proofs.Structures.{value-trips}
 use Rattle.words.proofs.Theorems.{exact-fact}
 use Rattle.vsec.specs.Structure.{vsecOf, vsecAt, values, widths, lowWidths, highWidths, lowValues, highValues, fixedWrong, tooWide, readNumber, writeNumber, written}
-use Rattle.vsec.specs.Told.{decoded, walked}
+use Rattle.vsec.specs.Told.{decoded}
 use Rattle.vsec.specs.Facts.{Narrow, StructureTests, StructureAnswers, StructureTrips, structureIn}
 use Rattle.vsec.specs.declared.structure.Vsec.{Vsec}
 use Rattle.vsec.specs.declared.structure.Decoded.{Decoded}
 use Rattle.vsec.specs.declared.structure.Decoded.the-variants as decode
-use Rattle.vsec.specs.declared.walk.Walked.{Walked}
-use Rattle.vsec.specs.declared.walk.Walked.the-variants.{Taken, Refused}
 use Rattle.vsec.proofs.StructureLaws.{fixed-right, right-fixed, narrow-right, right-narrow, low-fits, high-fits, values-of, write-right, accepted}
 
 -- ---- the structure
@@ -153,15 +151,3 @@ decoded-once = once decoded undecoded back
     back : (a : Decoded) → undecoded (decoded a) ≡ a
     back (decode.Structure v) = refl
     back (decode.Refused n) = refl
-
-unwalked : Answer → Walked
-unwalked (refused n) = Refused n
-unwalked (gives l) = Taken (getD l 0 0)
-
-pub walked-once : (a b : Walked) → walked a ≡ walked b → a ≡ b
-unfolding unwalked
-walked-once = once walked unwalked back
-  where
-    back : (a : Walked) → unwalked (walked a) ≡ a
-    back (Taken at) = refl
-    back (Refused n) = refl

@@ -1,4 +1,3 @@
 pub mod Structure
-pub mod Walk
 pub mod Told
 pub mod Facts

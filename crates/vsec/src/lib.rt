@@ -1,4 +1,2 @@
-// From a configuration space to its TPMI structure: the walk of the extended capability list (`walk`) and the 16-byte
-// structure itself, read and written (`structure`).
+// The 16-byte TPMI structure of extended configuration space, read and written (`structure`). No call asks anything of its caller.
 pub mod structure;
-pub mod walk;

@@ -62,7 +62,7 @@ pub fn vsec_at(s: &[u8], at: usize) -> Vsec
 }
 
 // One of the six fixed fields is not what it must be.
-pub(crate) fn fixed_wrong(v: Vsec) -> bool
+pub fn fixed_wrong(v: Vsec) -> bool
     ensures answer { λ r. ⌜ r ≡ fixedWrong v ⌝ }
 {
     if v.identifier != 0x000B {

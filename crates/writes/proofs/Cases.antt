@@ -10,7 +10,6 @@ use Rattle.domains.specs.Domains.{headerOf, headerIn, missing, unused, wrong, u
 use Rattle.domains.specs.Registers.{present, registerPlace, registerAt}
 use Rattle.writes.specs.Writes.{placeOf, widthOf, aLimit, unwritable, refusalOf, nextContent, nextNumber, nextOf}
 
-
 -- one domain with these FLAGS: version 1, a package, SIZE 1, its own parent; limits of all zeros, register 9 all ones
 abbrev board : ℕ → List ℕ
 board flags = 1 ∷ 2 ∷ 1 ∷ 0 ∷ flags ∷ replicate 67 0 ++ replicate 8 255 ++ replicate 48 0

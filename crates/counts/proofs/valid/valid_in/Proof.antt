@@ -2,8 +2,8 @@
 use Prim.Native.Nat.{_*_}
 use mathlib.Core.Path.{ap, _∙_, sym, subst}
 use native.Mathlib.Omega.{arith}
-use Rattle.entries.specs.declared.faults.Bank.{Bank}
-use Rattle.entries.proofs.FaultLaws.{Bounded, bank-bounded}
+use Rattle.banks.specs.declared.faults.Bank.{Bank}
+use Rattle.banks.proofs.FaultLaws.{Bounded, bank-bounded}
 use Rattle.counts.specs.Valid.{validCountIn}
 use borrow.Author.Needs.{needs}
 use Rattle.counts.proofs.valid.valid_in.Statement.{statement}

@@ -2,7 +2,7 @@
 use mathlib.Core.Path.{sym, ap, _∙_, subst}
 use Rattle.words.specs.Answers.{refused, numberIn}
 use Rattle.vsec.specs.Facts.{Narrow}
-use Rattle.vsec.specs.Told.{walked}
+use Rattle.walk.specs.Told.{walked}
 use Rattle.vsec.specs.declared.structure.Vsec.{Vsec}
 use Rattle.vsec.proofs.Theorems.{narrow-at}
 use Rattle.discovery.specs.Discovery.{captured, structureIn}

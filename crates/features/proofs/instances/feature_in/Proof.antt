@@ -4,9 +4,9 @@ use mathlib.Core.Path.{_≡_, sym, ap, _∙_, subst}
 use mathlib.Core.List.{[], _∷_}
 use native.Mathlib.Omega.{arith}
 use Rattle.words.specs.Answers.{gives}
-use Rattle.entries.specs.Faults.{bankIn}
-use Rattle.entries.specs.declared.faults.Bank.{Bank}
-use Rattle.entries.proofs.FaultLaws.{bank-bounded}
+use Rattle.banks.specs.Faults.{bankIn}
+use Rattle.banks.specs.declared.faults.Bank.{Bank}
+use Rattle.banks.proofs.FaultLaws.{bank-bounded}
 use Rattle.features.specs.Places.{indexIn}
 use Rattle.features.proofs.PlaceLaws.{feature-missing, feature-there}
 use borrow.Author.Needs.{needs}

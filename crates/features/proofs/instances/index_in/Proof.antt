@@ -9,8 +9,8 @@ use borrow.Author.Needs.{needs}
 use lib.Dec.{eqb}
 use Rattle.words.specs.Below.{least}
 use Rattle.words.proofs.BelowLaws.{least-here, least-turn, least-none}
-use Rattle.entries.specs.Faults.{emptyBank}
-use Rattle.entries.specs.declared.faults.Bank.{Bank}
+use Rattle.banks.specs.Faults.{emptyBank}
+use Rattle.banks.specs.declared.faults.Bank.{Bank}
 use Rattle.features.specs.Places.{holds, indexIn}
 use Rattle.features.proofs.instances.index_in.Statement.{statement}
 use Rattle.features.proofs.instances.index_in.Tie as tie

@@ -4,8 +4,8 @@ use mathlib.Core.Path.{sym, ap, ap₂, _∙_}
 use mathlib.Core.List.{List}
 use Rattle.words.specs.Bytes.{numberAt}
 use Rattle.places.specs.Parts.{named}
-use Rattle.listing.specs.Told.{laid}
-use Rattle.listing.proofs.LayoutLaws.{LaidOut, not-laid, laid-out}
+use Rattle.captures.specs.Told.{laid}
+use Rattle.captures.proofs.LayoutLaws.{LaidOut, not-laid, laid-out}
 use Rattle.listing.proofs.LineLaws.{bar-none, bar-there}
 use borrow.Author.Needs.{needs}
 use Rattle.listing.proofs.lines.bar_in.Statement.{statement}

@@ -3,8 +3,8 @@ use Prim.Native.Nat.{ℕ, _*_}
 use mathlib.Core.Path.{sym, ap, _∙_, subst}
 use mathlib.Core.List.{[], _∷_}
 use native.Mathlib.Omega.{arith}
-use Rattle.entries.specs.declared.faults.Bank.{Bank}
-use Rattle.entries.proofs.FaultLaws.{Bounded, bank-bounded}
+use Rattle.banks.specs.declared.faults.Bank.{Bank}
+use Rattle.banks.proofs.FaultLaws.{Bounded, bank-bounded}
 use Rattle.counts.specs.Valid.{validCountIn}
 use Rattle.listing.proofs.LineLaws.{line-none, line-there}
 use borrow.Author.Needs.{needs}

@@ -9,10 +9,10 @@ use Rattle.discovery.specs.Discovery.{captured, discoveryOf}
 use Rattle.places.specs.Told.{told}
 use Rattle.discovery.proofs.DiscoveryLaws.{structure-narrow}
 use Rattle.discovery.proofs.DiscoveryLaws.{TablePlace, table-place}
-use Rattle.listing.specs.Layout.{configIn, lowIn, highIn}
+use Rattle.captures.specs.Layout.{configIn, lowIn, highIn}
 use Rattle.listing.specs.Lines.{answers, captureIn}
-use Rattle.listing.specs.Told.{laid}
-use Rattle.listing.proofs.LayoutLaws.{LaidOut, not-laid, laid-out}
+use Rattle.captures.specs.Told.{laid}
+use Rattle.captures.proofs.LayoutLaws.{LaidOut, not-laid, laid-out}
 use Rattle.listing.proofs.LineLaws.{says-unreadable, says-answer}
 use borrow.Author.Needs.{needs}
 use Rattle.listing.proofs.lines.listing_of.Statement.{statement}

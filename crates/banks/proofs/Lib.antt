@@ -1,0 +1,4 @@
+pub mod FaultLaws
+pub mod FaultFact
+pub mod SameTable
+pub mod Cases

@@ -1,0 +1,4 @@
+pub mod WalkLaws
+pub mod WalkFact
+pub mod Told
+pub mod Cases
