@@ -7,7 +7,7 @@ use lib.ListN.{replicate}
 use Rattle.words.specs.Answers.{first, orElse}
 use Rattle.words.specs.Below.{anyBelow, firstBelow}
 use Rattle.words.specs.Bytes.{numberAt}
-use Rattle.words.specs.Fields.{field}
+use Rattle.fields.specs.Fields.{field}
 use Rattle.entries.specs.Entry.{entryOf, entryAt}
 use Rattle.banks.specs.Faults.{bankOf, bankIn, emptyBank, repeats, meets, faultAt, faultsOf}
 use Rattle.entries.proofs.Cases.{rapl}

@@ -11,7 +11,7 @@ use lib.ListN.{length}
 use Rattle.words.specs.Answers.{first}
 use Rattle.words.specs.Below.{anyBelow}
 use Rattle.words.specs.Bytes.{numberAt}
-use Rattle.words.proofs.FieldLaws.{field-lt}
+use Rattle.fields.proofs.FieldLaws.{field-lt}
 use Rattle.words.proofs.AnswerLaws.{first-skip, first-take}
 use Rattle.words.proofs.TestLaws.{or-skip, or-take}
 use Rattle.words.proofs.BelowLaws.{any-found, any-skip}

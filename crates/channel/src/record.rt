@@ -34,7 +34,7 @@ const TURN: u64 = 4294967296;
 fn count_in(status: u64) -> u32
     ensures answer { λ r. ⌜ r ≡ countOf status ⌝ }
 {
-    words::fields::field(status, 0, 32) as u32
+    fields::bits::field(status, 0, 32) as u32
 }
 
 // Energy unit 0 to 31, gap limit 1 to 3,600,000 ms.

@@ -7,7 +7,7 @@ use Prim.Native.Nat.{ℕ, _+_, _*_}
 use mathlib.Core.Bool.{Bool, not}
 use mathlib.Core.List.{List, [], _∷_}
 use Rattle.words.specs.Answers.{Answer, gives, unless}
-use Rattle.words.specs.Masks.{howMany}
+use Rattle.fields.specs.Masks.{howMany}
 use Rattle.discovery.specs.Discovery.{Capture, barOf}
 use Rattle.features.specs.Places.{bankFor, sizeFor, featureNumber, invalidAt}
 

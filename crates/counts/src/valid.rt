@@ -2,7 +2,7 @@
 ghost use mathlib.Core.Path.{_≡_};
 ghost use mathlib.Core.Bool.{not};
 ghost use Prim.Native.Nat.{_*_, _≤_, _<_};
-ghost use Rattle.words.specs.Masks.{maskOf, onwards};
+ghost use Rattle.fields.specs.Masks.{maskOf, onwards};
 ghost use Rattle.banks.specs.Faults.{bankIn};
 ghost use Rattle.discovery.specs.Discovery.{captured};
 ghost use Rattle.features.specs.Places.{invalidAt};

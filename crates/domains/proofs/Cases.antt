@@ -5,7 +5,7 @@ use mathlib.Core.List.{List, [], _∷_, _++_, map}
 use lib.ListN.{replicate}
 use Rattle.words.specs.Answers.{refused, gives, first, orElse, earliest}
 use Rattle.words.specs.Bytes.{numberAt}
-use Rattle.words.specs.Fields.{field}
+use Rattle.fields.specs.Fields.{field}
 use Rattle.domains.specs.Domains.{headerOf, headerIn, missing, unused, wrong, unsound, domainNumber, domainOf}
 use Rattle.domains.specs.Registers.{present, registerAt, absent, contentNumber, contentOf}
 

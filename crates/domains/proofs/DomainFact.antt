@@ -9,8 +9,8 @@ use borrow.Author.Tests.{ltb-true, ltb-false, eq-eqb, eqb-true, not-true, not-fa
 use lib.Dec.{ltb, eqb}
 use Rattle.words.specs.Answers.{refused, gives, unless}
 use Rattle.words.proofs.AnswerLaws.{unless-number, unless-gives, unless-passes, first-zero, first-none, earliest-stop, two-pass, two-zero, two-from}
-use Rattle.words.specs.Tables.{fields}
-use Rattle.words.proofs.TableLaws.{fields-whole}
+use Rattle.fields.specs.Tables.{fields}
+use Rattle.fields.proofs.TableLaws.{fields-whole}
 use Rattle.words.proofs.TestLaws.{or-neither, or-either, or-second, fails-exactly, fails-else}
 use Rattle.words.proofs.Theorems.{exact-fact, unless-fact}
 use Rattle.domains.specs.Domains.{widths, headerOf, headerIn, missing, unused, wrong, unsound, domainNumber, domainOf}

@@ -9,7 +9,7 @@ use borrow.Author.Tests.{lt-ltb, le-ltb, eq-eqb, ne-eqb}
 use lib.Dec.{eqb}
 use lib.ListN.{length}
 use Rattle.words.specs.Answers.{refused, gives, unless}
-use Rattle.words.specs.Fields.{field}
+use Rattle.fields.specs.Fields.{field}
 use Rattle.words.proofs.AnswerLaws.{first-skip, first-take, first-end, stage-stops, stage-passes, stage-last}
 use Rattle.words.proofs.TestLaws.{or-skip, or-take, or-second}
 use Rattle.domains.specs.Domains.{headerIn, values, domainNumber, domainOf}

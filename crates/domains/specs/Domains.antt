@@ -18,7 +18,7 @@ use lib.Dec.{ltb, eqb}
 use lib.ListN.{length}
 use Rattle.words.specs.Answers.{Answer, gives, unless, first}
 use Rattle.words.specs.Bytes.{numberAt}
-use Rattle.words.specs.Fields.{field}
+use Rattle.fields.specs.Fields.{field}
 use Rattle.domains.specs.declared.headers.Header.{Header}
 
 -- version, type, SIZE, parent, FLAGS, reserved 63:48

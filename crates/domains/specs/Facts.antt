@@ -7,8 +7,8 @@ use mathlib.Core.List.{List, [], _∷_}
 use mathlib.Core.Logic.{_⊎_, _↔_, _≢_}
 use lib.ListN.{length}
 use Rattle.words.specs.Answers.{refused, gives}
-use Rattle.words.specs.Fields.{bit}
-use Rattle.words.specs.Tables.{fields, withFields}
+use Rattle.fields.specs.Fields.{bit}
+use Rattle.fields.specs.Tables.{fields, withFields}
 use Rattle.domains.specs.Domains.{widths, headerOf, headerIn, values, domainNumber, domainOf}
 use Rattle.domains.specs.Registers.{registerAt, contentOf}
 use Rattle.domains.specs.Told.{told}

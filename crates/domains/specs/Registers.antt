@@ -12,7 +12,7 @@ use mathlib.Core.List.{List, [], _∷_}
 use lib.Dec.{ltb, eqb}
 use Rattle.words.specs.Answers.{Answer, gives, unless, first, earliest}
 use Rattle.words.specs.Bytes.{numberAt}
-use Rattle.words.specs.Fields.{field}
+use Rattle.fields.specs.Fields.{field}
 use Rattle.domains.specs.Domains.{placeOf, headerIn, domainNumber}
 
 unfoldable pub present : ℕ → ℕ → Bool

@@ -4,8 +4,8 @@ ghost use mathlib.Core.Bool.{cond};
 ghost use Rattle.words.specs.Answers.{refused, gives, numberIn};
 ghost use Rattle.domains.specs.Domains.{headerOf, headerIn, values, missing, unused, wrong, domainOf};
 ghost use Rattle.domains.specs.Told.{told};
+use fields::bits::field;
 use words::bytes::u64_at;
-use words::fields::field;
 
 // Register 0 of a domain; a reserved field is named by its lowest bit.
 pub struct Header {

@@ -5,9 +5,9 @@ ghost use Rattle.domains.specs.Registers.{present, contentOf};
 use crate::headers::Known;
 use crate::headers::domain_in;
 use crate::headers::number_of;
+use fields::bits::field;
 use places::found::Value;
 use words::bytes::u64_at;
-use words::fields::field;
 
 // Register r is present: 0, 1 and 9 always, the others by their bit of FLAGS.
 pub fn present(flags: u64, r: u32) -> bool

@@ -7,7 +7,7 @@ use mathlib.Core.List.{List, [], _∷_}
 use native.Mathlib.Omega.{arith}
 use native.Mathlib.Decide.{ℕ-discrete as decide}
 use borrow.Author.Tests.{ne-eqb}
-use Rattle.words.specs.Fields.{field}
+use Rattle.fields.specs.Fields.{field}
 use Rattle.words.specs.Answers.{Answer, first, gives}
 use Rattle.channel.specs.Channels.{inRange, isOpen, tests, values, taken}
 use Rattle.energy.specs.Hall.{allClosed, testsOn, answerOn, leavesOn, answersTo}

@@ -4,7 +4,7 @@ use mathlib.Core.Path.{_≡_, refl}
 use mathlib.Core.List.{List, [], _∷_}
 use Rattle.words.specs.Answers.{gives, first}
 use Rattle.words.specs.Bytes.{numberAt}
-use Rattle.words.specs.Fields.{field}
+use Rattle.fields.specs.Fields.{field}
 use Rattle.entries.specs.Entry.{entryOf, entryAt, readOf}
 
 abbrev pub rapl : List ℕ

@@ -8,9 +8,9 @@ use borrow.Author.Tests.{lt-ltb, le-ltb, ltb-false}
 use lib.ListN.{length}
 use Rattle.words.specs.Answers.{refused, gives, unless}
 use Rattle.words.specs.Bytes.{stored}
-use Rattle.words.specs.Tables.{fields, withFields, Fit, wider}
-use Rattle.words.proofs.Structures.{unless-refused, unless-accepted}
-use Rattle.words.proofs.TableLaws.{narrow-fit}
+use Rattle.fields.specs.Tables.{fields, withFields, Fit, wider}
+use Rattle.fields.proofs.Structures.{unless-refused, unless-accepted}
+use Rattle.fields.proofs.TableLaws.{narrow-fit}
 use Rattle.words.proofs.AnswerLaws.{first-skip, first-take, first-end, first-zero}
 use Rattle.entries.specs.Entry.{widths, entryOf, entryAt, values, readOf, writeNumber, written}
 use Rattle.entries.specs.declared.entry.Entry.{Entry}

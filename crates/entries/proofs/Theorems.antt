@@ -8,12 +8,13 @@ use borrow.Author.Tests.{lt-ltb, le-ltb, ltb-true, ltb-false}
 use lib.Dec.{ltb}
 use lib.ListN.{length, getD}
 use Rattle.words.specs.Answers.{Answer, refused, gives}
-use Rattle.words.specs.Tables.{Fit, wider}
-use Rattle.words.proofs.TableLaws.{fields-fit, fit-narrow}
+use Rattle.fields.specs.Tables.{Fit, wider}
+use Rattle.fields.proofs.TableLaws.{fields-fit, fit-narrow}
 use Rattle.words.proofs.AnswerLaws.{once}
-use Rattle.words.proofs.Structures.{value-trips}
+use Rattle.fields.proofs.Structures.{value-trips}
 use Rattle.words.proofs.TestLaws.{fails-exactly}
-use Rattle.words.proofs.Theorems.{exact-fact, wider-fact}
+use Rattle.words.proofs.Theorems.{exact-fact}
+use Rattle.fields.proofs.Theorems.{wider-fact}
 use Rattle.entries.specs.Entry.{widths, entryOf, entryAt, values, writeNumber, written}
 use Rattle.entries.specs.Told.{decoded}
 use Rattle.entries.specs.Facts.{EntryAnswers, EntryTrips, entryIn}

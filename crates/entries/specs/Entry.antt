@@ -14,8 +14,8 @@ use lib.Dec.{ltb}
 use lib.ListN.{length}
 use Rattle.words.specs.Answers.{Answer, gives, unless, first}
 use Rattle.words.specs.Bytes.{numberAt}
-use Rattle.words.specs.Fields.{field}
-use Rattle.words.specs.Tables.{wider, writtenUnless}
+use Rattle.fields.specs.Fields.{field}
+use Rattle.fields.specs.Tables.{wider, writtenUnless}
 use Rattle.entries.specs.declared.entry.Entry.{Entry}
 
 -- TPMI_ID, NumEntries, EntrySize, CapOffset, Attribute, reserved

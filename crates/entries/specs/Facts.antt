@@ -6,8 +6,8 @@ use mathlib.Core.Path.{_≡_}
 use mathlib.Core.Logic.{_↔_}
 use mathlib.Core.List.{List}
 use lib.ListN.{length}
-use Rattle.words.specs.Facts.{ValueTrips}
-use Rattle.words.specs.Tables.{Fit}
+use Rattle.fields.specs.Facts.{ValueTrips}
+use Rattle.fields.specs.Tables.{Fit}
 use Rattle.entries.specs.Entry.{widths, values, entryAt, writeNumber, written}
 use Rattle.entries.specs.declared.entry.Entry.{Entry}
 

@@ -1,12 +1,12 @@
 // A PFS entry of 8 bytes as a value, with all its fields, the reserved one too: read from a part and written to one.
 ghost use mathlib.Core.Path.{_≡_};
-ghost use Rattle.words.specs.Tables.{withFields, wider};
+ghost use Rattle.fields.specs.Tables.{withFields, wider};
 ghost use Rattle.entries.specs.Entry.{widths, values, entryOf, entryAt, readOf, writeNumber, written};
 ghost use Rattle.entries.specs.Told.{decoded};
+use fields::bits::field;
+use fields::bits::with_field;
 use words::bytes::store_u64;
 use words::bytes::u64_at;
-use words::fields::field;
-use words::fields::with_field;
 
 pub struct Entry {
     // TPMI_ID

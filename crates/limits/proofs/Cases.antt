@@ -2,8 +2,8 @@
 use mathlib.Core.Path.{_≡_, refl}
 use mathlib.Core.List.{[], _∷_}
 use Rattle.words.specs.Answers.{refused, gives, first}
-use Rattle.words.specs.Fields.{field, withField}
-use Rattle.words.specs.Tables.{withFields, wider, writtenWord}
+use Rattle.fields.specs.Fields.{field, withField}
+use Rattle.fields.specs.Tables.{withFields, wider, writtenWord}
 use Rattle.limits.specs.Limit.{limitOf, values, writtenOf}
 
 -- document 01's register: power 1,000, window code 0x6E, enabled, not locked; and all ones; each read and written back

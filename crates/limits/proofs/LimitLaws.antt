@@ -3,7 +3,7 @@ use Prim.Native.Nat.{ℕ}
 use mathlib.Core.Path.{_≡_, refl, ap}
 use mathlib.Core.List.{List}
 use lib.ListN.{getD}
-use Rattle.words.specs.Tables.{fields}
+use Rattle.fields.specs.Tables.{fields}
 use Rattle.limits.specs.Limit.{widths, limitOf, values}
 use Rattle.limits.specs.declared.limit.Limit.{Limit}
 

@@ -1,6 +1,6 @@
 -- The theorems of Facts.antt, under their names. Assumes nothing.
 use mathlib.Core.Path.{refl}
-use Rattle.words.proofs.Structures.{word-trips}
+use Rattle.fields.proofs.Structures.{word-trips}
 use Rattle.limits.specs.Limit.{widths, limitOf, values}
 use Rattle.limits.specs.Facts.{LimitFact}
 use Rattle.limits.specs.declared.limit.Limit.{Limit}

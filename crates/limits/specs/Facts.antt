@@ -1,6 +1,6 @@
 -- What is proved of a limit's register as a value, for every number. To be read without its proof, which is in proofs/Theorems.antt.
 -- Assumes nothing.
-use Rattle.words.specs.Facts.{WordTrips}
+use Rattle.fields.specs.Facts.{WordTrips}
 use Rattle.limits.specs.Limit.{widths, limitOf, values}
 use Rattle.limits.specs.declared.limit.Limit.{Limit}
 

@@ -8,8 +8,8 @@
 use Prim.Native.Nat.{ℕ}
 use mathlib.Core.List.{List, [], _∷_}
 use Rattle.words.specs.Answers.{Answer}
-use Rattle.words.specs.Fields.{field}
-use Rattle.words.specs.Tables.{writtenWord}
+use Rattle.fields.specs.Fields.{field}
+use Rattle.fields.specs.Tables.{writtenWord}
 use Rattle.limits.specs.declared.limit.Limit.{Limit}
 
 -- PWR_LIM, TIME_WINDOW, reserved 61:25, PWR_LIM_EN, LOCK

@@ -1,12 +1,12 @@
 // Limit 1 or 2 of a domain, register 2 or 3, as a value with all its fields, the reserved one too: read from the register's 64 bits and
 // written to them.
 ghost use mathlib.Core.Path.{_≡_};
-ghost use Rattle.words.specs.Tables.{withFields, wider};
+ghost use Rattle.fields.specs.Tables.{withFields, wider};
 ghost use Rattle.windows.specs.Told.{written};
 ghost use Rattle.limits.specs.Limit.{widths, values, limitOf, writtenOf};
+use fields::bits::field;
+use fields::bits::with_field;
 use windows::units::Written;
-use words::fields::field;
-use words::fields::with_field;
 
 // A reserved field is named by its lowest bit.
 pub struct Limit {

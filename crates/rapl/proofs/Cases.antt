@@ -3,7 +3,7 @@ use mathlib.Core.Path.{_≡_, refl}
 use mathlib.Core.List.{[], _∷_, _++_, map}
 use Rattle.words.specs.Answers.{refused, gives, first}
 use Rattle.words.specs.Bytes.{numberAt}
-use Rattle.words.specs.Fields.{field}
+use Rattle.fields.specs.Fields.{field}
 use Rattle.domains.specs.Domains.{headerOf, headerIn, missing, unused, wrong, unsound, domainNumber}
 use Rattle.rapl.specs.Chains.{stepAt, climbFrom, chainOf}
 use Rattle.domains.proofs.Cases.{block, six}

@@ -8,7 +8,7 @@ use borrow.Author.Tests.{eqb-true, eq-eqb}
 use Rattle.words.specs.Answers.{Answer, refused, gives, first, orElse, earliest}
 use Rattle.words.specs.Below.{anyBelow, firstBelow, least}
 use Rattle.words.specs.Bytes.{numberAt, put}
-use Rattle.words.specs.Fields.{field, withField}
+use Rattle.fields.specs.Fields.{field, withField}
 use Rattle.words.proofs.TestLaws.{and-both, and-holds}
 use Rattle.vsec.specs.Structure.{vsecOf, vsecAt, fixedWrong, readNumber, readOf}
 use Rattle.walk.specs.Walk.{identifierAt, nextAt, vsecIdAt, followed, takenAt, headerAt, walkFrom, emptyList, walkOf}
@@ -22,7 +22,8 @@ use Rattle.domains.specs.Domains.{headerOf, headerIn, unused, wrong, domainNumb
 use Rattle.domains.specs.Registers.{present, registerAt, absent, contentNumber, contentOf}
 use Rattle.rapl.specs.Lookups.{contentFor}
 use Rattle.writes.specs.Writes as writes
-use Rattle.writes.specs.Writes.{widthOf, aLimit, unwritable, refusalOf, nextContent, nextNumber, nextOf, nextFor, writeNumber, barLeft, lowLeft, highLeft}
+use Rattle.permits.specs.Permits.{widthOf, aLimit, unwritable, refusalOf}
+use Rattle.writes.specs.Writes.{nextContent, nextNumber, nextOf, nextFor, writeNumber, barLeft, lowLeft, highLeft}
 use Rattle.channel.specs.Channels.{inRange, isOpen, tests, values, taken}
 use Rattle.energy.specs.Hall.{testsOn, answerOn, leavesOn}
 use Rattle.stamp.specs.Table.{Row, sameNumbers, same, allSame, table, AllDue, SameFact, RowsFact, TableFact}

@@ -15,8 +15,8 @@ use Rattle.words.proofs.bytes.store_u8.Reads as words-store-u8
 use Rattle.words.proofs.bytes.store_u16.Reads as words-store-u16
 use Rattle.words.proofs.bytes.store_u32.Reads as words-store-u32
 use Rattle.words.proofs.bytes.store_u64.Reads as words-store-u64
-use Rattle.words.proofs.fields.field.Reads as words-field
-use Rattle.words.proofs.fields.with_field.Reads as words-with-field
+use Rattle.fields.proofs.bits.field.Reads as words-field
+use Rattle.fields.proofs.bits.with_field.Reads as words-with-field
 use Rattle.walk.proofs.capabilities.walk.Reads as vsec-walk
 use Rattle.vsec.proofs.structure.vsec_at.Reads as vsec-vsec-at
 use Rattle.vsec.proofs.structure.read.Reads as vsec-read

@@ -4,7 +4,7 @@ use mathlib.Core.Path.{_≡_, refl}
 use mathlib.Core.List.{List, [], _∷_}
 use Rattle.words.specs.Answers.{gives, first}
 use Rattle.words.specs.Bytes.{numberAt}
-use Rattle.words.specs.Fields.{field}
+use Rattle.fields.specs.Fields.{field}
 use Rattle.vsec.specs.Structure.{vsecOf, vsecAt, fixedWrong, readNumber, readOf}
 
 -- document 01's structure: 2 entries, tBIR 1, the table at 2,048

@@ -10,15 +10,15 @@ use borrow.Author.Tests.{lt-ltb, le-ltb, ltb-false, eqb-true, not-false}
 use lib.ListN.{length}
 use Rattle.words.specs.Answers.{refused, gives, unless}
 use Rattle.words.specs.Bytes.{numberAt, stored}
-use Rattle.words.specs.Fields.{field}
-use Rattle.words.specs.Tables.{fields, withFields, Fit, wider}
-use Rattle.words.proofs.Structures.{unless-refused, unless-accepted}
+use Rattle.fields.specs.Fields.{field}
+use Rattle.fields.specs.Tables.{fields, withFields, Fit, wider}
+use Rattle.fields.proofs.Structures.{unless-refused, unless-accepted}
 use Rattle.words.proofs.TestLaws.{as-must, or-skip, or-neither}
 use Rattle.words.proofs.AnswerLaws.{first-skip, first-take, first-end, first-zero}
 use Rattle.words.proofs.NumberLaws.{number-past, number-split}
 use Rattle.words.proofs.StoreLaws.{stored-two}
-use Rattle.words.proofs.FieldLaws.{field-under, field-over}
-use Rattle.words.proofs.TableLaws.{fields-lt, side-written, narrow-fit, fit-narrow}
+use Rattle.fields.proofs.FieldLaws.{field-under, field-over}
+use Rattle.fields.proofs.TableLaws.{fields-lt, side-written, narrow-fit, fit-narrow}
 use Rattle.vsec.specs.Structure.{vsecOf, vsecAt, widths, lowWidths, highWidths, values, lowValues, highValues, fixedWrong, freeWidths, freeValues, tooWide, numbers, readNumber, readOf, writeNumber, written}
 use Rattle.vsec.specs.Facts.{Fixed, Narrow}
 use Rattle.vsec.specs.declared.structure.Vsec.{Vsec}

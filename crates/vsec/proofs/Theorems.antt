@@ -8,12 +8,12 @@ use borrow.Author.Tests.{lt-ltb, le-ltb, ltb-true, ltb-false}
 use lib.Dec.{ltb}
 use lib.ListN.{length, getD}
 use Rattle.words.specs.Answers.{Answer, refused, gives}
-use Rattle.words.specs.Tables.{Fit}
+use Rattle.fields.specs.Tables.{Fit}
 use Rattle.words.proofs.TestLaws.{fails-exactly}
 use Rattle.words.proofs.AnswerLaws.{once, first-none, first-zero}
-use Rattle.words.proofs.FieldLaws.{field-lt}
-use Rattle.words.proofs.TableLaws.{fit-append}
-use Rattle.words.proofs.Structures.{value-trips}
+use Rattle.fields.proofs.FieldLaws.{field-lt}
+use Rattle.fields.proofs.TableLaws.{fit-append}
+use Rattle.fields.proofs.Structures.{value-trips}
 use Rattle.words.proofs.Theorems.{exact-fact}
 use Rattle.vsec.specs.Structure.{vsecOf, vsecAt, values, widths, lowWidths, highWidths, lowValues, highValues, fixedWrong, tooWide, readNumber, writeNumber, written}
 use Rattle.vsec.specs.Told.{decoded}

@@ -7,7 +7,7 @@ use mathlib.Core.Logic.{_↔_}
 use mathlib.Core.Bool.{false}
 use mathlib.Core.List.{List}
 use lib.ListN.{length}
-use Rattle.words.specs.Facts.{ValueTrips}
+use Rattle.fields.specs.Facts.{ValueTrips}
 use Rattle.vsec.specs.Structure.{vsecAt, fixedWrong, tooWide, readNumber, writeNumber, written}
 use Rattle.vsec.specs.declared.structure.Vsec.{Vsec}
 

@@ -17,8 +17,8 @@ use lib.Dec.{ltb, eqb}
 use lib.ListN.{length}
 use Rattle.words.specs.Answers.{Answer, gives, unless, first}
 use Rattle.words.specs.Bytes.{numberAt}
-use Rattle.words.specs.Fields.{field}
-use Rattle.words.specs.Tables.{wider, writtenUnless}
+use Rattle.fields.specs.Fields.{field}
+use Rattle.fields.specs.Tables.{wider, writtenUnless}
 use Rattle.vsec.specs.declared.structure.Vsec.{Vsec}
 
 -- identifier, capability version, next, VSEC_ID, VSEC_REV, VSEC_LEN

@@ -1,13 +1,13 @@
 // The 16-byte VSEC structure as a value, with all its fields, fixed and reserved ones too: read from a part and written to one.
 ghost use mathlib.Core.Path.{_≡_};
 ghost use Prim.Native.Nat.{_+_, _*_, _^_};
-ghost use Rattle.words.specs.Tables.{withFields};
+ghost use Rattle.fields.specs.Tables.{withFields};
 ghost use Rattle.vsec.specs.Structure.{vsecOf, vsecAt, lowWidths, highWidths, lowValues, highValues, fixedWrong, tooWide, readOf, writeNumber, written};
 ghost use Rattle.vsec.specs.Told.{decoded};
+use fields::bits::field;
+use fields::bits::with_field;
 use words::bytes::store_u64;
 use words::bytes::u64_at;
-use words::fields::field;
-use words::fields::with_field;
 
 pub struct Vsec {
     pub identifier: u64,

@@ -5,7 +5,7 @@ use mathlib.Core.List.{List, [], _∷_, _++_}
 use lib.ListN.{replicate}
 use Rattle.words.specs.Answers.{refused, gives, first}
 use Rattle.words.specs.Bytes.{numberAt}
-use Rattle.words.specs.Fields.{field}
+use Rattle.fields.specs.Fields.{field}
 use Rattle.vsec.specs.Structure.{vsecOf, vsecAt, fixedWrong}
 use Rattle.walk.specs.Walk.{identifierAt, nextAt, vsecIdAt, followed, takenAt, headerAt, walkFrom, emptyList, walkOf}
 use Rattle.vsec.proofs.Cases.{sample}

@@ -13,7 +13,7 @@ use mathlib.Core.List.{List, [], _∷_}
 use lib.Dec.{ltb, eqb}
 use Rattle.words.specs.Answers.{Answer, refused, gives, unless, first}
 use Rattle.words.specs.Bytes.{numberAt}
-use Rattle.words.specs.Fields.{field}
+use Rattle.fields.specs.Fields.{field}
 use Rattle.vsec.specs.Structure.{vsecAt, fixedWrong}
 
 unfoldable pub identifierAt : List ℕ → ℕ → ℕ

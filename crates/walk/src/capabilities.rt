@@ -3,11 +3,11 @@ ghost use mathlib.Core.Path.{_≡_};
 ghost use Prim.Native.Nat.{_<_};
 ghost use Rattle.walk.specs.Walk.{followed, takenAt, headerAt, walkOf, Onward};
 ghost use Rattle.walk.specs.Told.{walked, meant};
+use fields::bits::field;
 use vsec::structure::fixed_wrong;
 use vsec::structure::vsec_at;
 use words::bytes::u16_at;
 use words::bytes::u32_at;
-use words::fields::field;
 
 pub enum Walked {
     Taken(usize),

@@ -5,8 +5,8 @@ use mathlib.Core.List.{List, [], _∷_}
 use native.Mathlib.Omega.{arith}
 use Rattle.words.specs.Answers.{Answer, refused, gives, first}
 use Rattle.words.specs.Below.{least}
-use Rattle.words.specs.Fields.{field, withField}
-use Rattle.words.specs.Tables.{withFields, wider, writtenWord}
+use Rattle.fields.specs.Fields.{field, withField}
+use Rattle.fields.specs.Tables.{withFields, wider, writtenWord}
 use Rattle.windows.specs.Windows.{quartersOf, longEnough, placeOf, windowNumber, windowOf}
 use Rattle.windows.specs.Units.{unitsOf, values, writtenOf}
 

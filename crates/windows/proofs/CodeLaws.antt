@@ -9,8 +9,8 @@ use lib.Dec.{leb}
 use lib.Pow.{pow-mono}
 use Rattle.words.specs.Answers.{refused, gives, unless}
 use Rattle.words.specs.Below.{least}
-use Rattle.words.specs.Fields.{field}
-use Rattle.words.proofs.FieldLaws.{field-lt}
+use Rattle.fields.specs.Fields.{field}
+use Rattle.fields.proofs.FieldLaws.{field-lt}
 use Rattle.words.proofs.AnswerLaws.{first-skip, first-take, first-end}
 use Rattle.words.proofs.BelowLaws.{least-here, least-turn, least-none}
 use Rattle.windows.specs.Windows.{quartersOf, codeOf, codeAt, asked, longEnough, placeOf, windowNumber, windowOf}

@@ -8,8 +8,8 @@ use native.Mathlib.Omega.{arith}
 use borrow.Author.Tests.{leb-true, leb-false}
 use lib.Dec.{leb}
 use lib.Pow.{pow-pos, pow-mono, pow-add}
-use Rattle.words.specs.Fields.{field}
-use Rattle.words.proofs.FieldLaws.{field-mod}
+use Rattle.fields.specs.Fields.{field}
+use Rattle.fields.proofs.FieldLaws.{field-mod}
 use Rattle.windows.specs.Windows.{quartersOf, codeOf}
 use Rattle.windows.specs.Facts.{CodeFact, AnyCode, Before, Rising, LastsOnce}
 use Rattle.windows.proofs.CodeLaws.{x-lt, y-lt, quarters-most, x-of, y-of, quarters-of}

@@ -10,12 +10,12 @@ use borrow.Author.Tests.{ltb-false, ltb-true, eqb-true, eqb-false, leb-true, leb
 use lib.Dec.{ltb, leb, eqb}
 use lib.ListN.{getD}
 use Rattle.words.specs.Answers.{Answer, refused, gives}
-use Rattle.words.specs.Fields.{field}
+use Rattle.fields.specs.Fields.{field}
 use Rattle.words.specs.Facts.{IsLeast}
 use Rattle.words.proofs.AnswerLaws.{first-zero, once}
 use Rattle.words.proofs.BelowLaws.{is-least, least-once}
-use Rattle.words.proofs.FieldLaws.{field-lt}
-use Rattle.words.proofs.Structures.{word-trips}
+use Rattle.fields.proofs.FieldLaws.{field-lt}
+use Rattle.fields.proofs.Structures.{word-trips}
 use Rattle.words.proofs.TestLaws.{never-both}
 use Rattle.words.proofs.Theorems.{exact-fact, unless-fact}
 use Rattle.windows.specs.Windows.{quartersOf, codeAt, asked, longEnough, placeOf, windowNumber, windowOf}

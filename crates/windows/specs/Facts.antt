@@ -6,8 +6,8 @@ use mathlib.Core.Path.{_≡_}
 use mathlib.Core.Logic.{_⊎_, _↔_, _≢_}
 use mathlib.Core.List.{[], _∷_}
 use Rattle.words.specs.Answers.{refused, gives}
-use Rattle.words.specs.Fields.{field}
-use Rattle.words.specs.Facts.{WordTrips}
+use Rattle.fields.specs.Fields.{field}
+use Rattle.fields.specs.Facts.{WordTrips}
 use Rattle.windows.specs.Windows.{quartersOf, codeOf, windowOf}
 use Rattle.windows.specs.Units.{widths, unitsOf, values}
 use Rattle.windows.specs.Told.{told, written}

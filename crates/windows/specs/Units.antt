@@ -8,8 +8,8 @@
 use Prim.Native.Nat.{ℕ}
 use mathlib.Core.List.{List, [], _∷_}
 use Rattle.words.specs.Answers.{Answer}
-use Rattle.words.specs.Fields.{field}
-use Rattle.words.specs.Tables.{writtenWord}
+use Rattle.fields.specs.Fields.{field}
+use Rattle.fields.specs.Tables.{writtenWord}
 use Rattle.windows.specs.declared.units.Units.{Units}
 
 -- PWR_UNIT, reserved 5:4, ENERGY_UNIT, reserved 11, TIME_UNIT, reserved 63:16

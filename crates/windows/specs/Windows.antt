@@ -15,7 +15,7 @@ use mathlib.Core.List.{[], _∷_}
 use lib.Dec.{ltb, leb, eqb}
 use Rattle.words.specs.Answers.{Answer, gives, first, unless}
 use Rattle.words.specs.Below.{least}
-use Rattle.words.specs.Fields.{field}
+use Rattle.fields.specs.Fields.{field}
 
 unfoldable pub quartersOf : ℕ → ℕ
 quartersOf code = (4 + field 5 2 code) * 2 ^ field 0 5 code

@@ -3,7 +3,7 @@ ghost use mathlib.Core.Path.{_≡_};
 ghost use Prim.Native.Nat.{_≤_};
 ghost use Rattle.windows.specs.Windows.{quartersOf, asked, windowOf};
 ghost use Rattle.windows.specs.Told.{told};
-use words::fields::field;
+use fields::bits::field;
 
 pub enum Window {
     Code(u64),

@@ -1,11 +1,11 @@
 // The units of a domain, register 1, as a value with all its fields, the reserved ones too: read from the register's 64 bits and
 // written to them.
 ghost use mathlib.Core.Path.{_≡_};
-ghost use Rattle.words.specs.Tables.{withFields, wider};
+ghost use Rattle.fields.specs.Tables.{withFields, wider};
 ghost use Rattle.windows.specs.Units.{widths, values, unitsOf, writtenOf};
 ghost use Rattle.windows.specs.Told.{written};
-use words::fields::field;
-use words::fields::with_field;
+use fields::bits::field;
+use fields::bits::with_field;
 
 // A unit is one over 2 to its number; a reserved field is named by its lowest bit.
 pub struct Units {

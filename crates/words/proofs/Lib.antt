@@ -1,12 +1,7 @@
 pub mod TestLaws
 pub mod NumberLaws
 pub mod StoreLaws
-pub mod FieldLaws
-pub mod Shifts
-pub mod TableLaws
-pub mod Structures
 pub mod AnswerLaws
 pub mod BelowLaws
-pub mod MaskLaws
 pub mod Theorems
 pub mod Cases

@@ -1,4 +1,3 @@
-// Numbers in bytes, lowest byte first (`bytes`), and fields of a number (`fields`).
+// Numbers in bytes, lowest byte first (`bytes`).
 // What lies past the end reads 0; what does not fit is not stored. No call asks anything of its caller.
 pub mod bytes;
-pub mod fields;

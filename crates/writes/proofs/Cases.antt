@@ -5,10 +5,11 @@ use mathlib.Core.List.{List, [], _∷_, _++_}
 use lib.ListN.{replicate}
 use Rattle.words.specs.Answers.{Answer, refused, gives, first, orElse, earliest}
 use Rattle.words.specs.Bytes.{numberAt, put, stored}
-use Rattle.words.specs.Fields.{field, withField}
+use Rattle.fields.specs.Fields.{field, withField}
 use Rattle.domains.specs.Domains.{headerOf, headerIn, missing, unused, wrong, unsound, domainNumber}
 use Rattle.domains.specs.Registers.{present, registerPlace, registerAt}
-use Rattle.writes.specs.Writes.{placeOf, widthOf, aLimit, unwritable, refusalOf, nextContent, nextNumber, nextOf}
+use Rattle.permits.specs.Permits.{placeOf, widthOf, aLimit, unwritable, refusalOf}
+use Rattle.writes.specs.Writes.{nextContent, nextNumber, nextOf}
 
 -- one domain with these FLAGS: version 1, a package, SIZE 1, its own parent; limits of all zeros, register 9 all ones
 abbrev board : ℕ → List ℕ

@@ -1,4 +1,3 @@
-pub mod FieldLaws
 pub mod NextLaws
 pub mod WriteLaws
 pub mod NextFact

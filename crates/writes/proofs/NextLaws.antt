@@ -6,15 +6,16 @@ use mathlib.Core.Logic.{_≢_}
 use native.Mathlib.Omega.{arith}
 use lib.ListN.{length}
 use Rattle.words.specs.Answers.{refused, gives, unless}
-use Rattle.words.specs.Fields.{withField}
+use Rattle.fields.specs.Fields.{withField}
 use Rattle.words.proofs.AnswerLaws.{unless-number, unless-gives, unless-refused, two-pass, two-zero, stage-stops}
 use Rattle.domains.specs.Domains.{headerIn, values, domainNumber, domainOf}
 use Rattle.domains.specs.Registers.{registerPlace, registerAt}
 use Rattle.domains.specs.declared.headers.Header.{Header}
 use Rattle.domains.proofs.DomainLaws.{known}
 use Rattle.domains.proofs.RegisterLaws.{register-inside}
-use Rattle.writes.specs.Writes.{placeOf, widthOf, refusalOf, nextContent, nextNumber, nextOf}
-use Rattle.writes.proofs.FieldLaws.{Passed, passed, limit-small}
+use Rattle.permits.specs.Permits.{placeOf, widthOf, refusalOf}
+use Rattle.writes.specs.Writes.{nextContent, nextNumber, nextOf}
+use Rattle.permits.proofs.PermitLaws.{Passed, passed, limit-small}
 
 module _ (s : List ℕ) (n limit which value : ℕ) where
   pub next-refused : {m : ℕ} → domainOf s n ≡ refused m → nextOf s n limit which value ≡ refused m

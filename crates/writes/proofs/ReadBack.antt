@@ -25,7 +25,7 @@ use Rattle.domains.specs.declared.headers.Header.{Header}
 use Rattle.domains.proofs.RegisterLaws.{absent-none, content-by}
 use Rattle.writes.specs.Writes.{nextContent, writeNumber, limitPlace, barLeft, lowLeft, highLeft}
 use Rattle.writes.specs.Facts.{left, ReadBack}
-use Rattle.writes.proofs.FieldLaws.{limit-small}
+use Rattle.permits.proofs.PermitLaws.{limit-small}
 use Rattle.writes.proofs.NextLaws.{permitted}
 use Rattle.writes.proofs.WriteLaws.{low-is, high-is}
 use Rattle.writes.proofs.WriteFact.{stages, in-part, left-is, holds}

@@ -9,20 +9,21 @@ use borrow.Author.Tests.{eq-eqb, ne-eqb}
 use lib.ListN.{length, getD, drop, length-take}
 use Rattle.words.specs.Answers.{refused, gives, unless, numberIn}
 use Rattle.words.specs.Bytes.{AllBytes, numberAt, stored}
-use Rattle.words.specs.Fields.{field, bit}
+use Rattle.fields.specs.Fields.{field, bit}
 use Rattle.words.proofs.AnswerLaws.{unless-passes}
-use Rattle.words.proofs.FieldLaws.{field-with-fit, with-lt}
+use Rattle.fields.proofs.FieldLaws.{field-with-fit, with-lt}
 use Rattle.words.proofs.NumberLaws.{number-lt, number-part}
 use Rattle.words.proofs.StoreLaws.{number-stored, stored-other, length-stored}
-use Rattle.words.proofs.Theorems.{field-fact}
+use Rattle.fields.proofs.Theorems.{field-fact}
 use Rattle.discovery.specs.Discovery.{Capture, birOf, barOf}
 use Rattle.features.specs.Places.{startFor, sizeFor, instanceNumber, instancePart}
 use Rattle.features.proofs.PlaceLaws.{part-found}
 use Rattle.features.proofs.InsideLaws.{instance-inside}
 use Rattle.domains.specs.Registers.{registerPlace, registerAt}
-use Rattle.writes.specs.Writes.{placeOf, widthOf, nextContent, nextNumber, nextOf, nextFor, writeNumber, limitPlace, barLeft}
+use Rattle.permits.specs.Permits.{placeOf, widthOf}
+use Rattle.writes.specs.Writes.{nextContent, nextNumber, nextOf, nextFor, writeNumber, limitPlace, barLeft}
 use Rattle.writes.specs.Facts.{CapturesFact, Stored, WriteFact}
-use Rattle.writes.proofs.FieldLaws.{fits}
+use Rattle.permits.proofs.PermitLaws.{fits}
 use Rattle.writes.proofs.NextLaws.{permitted, next-inside}
 use Rattle.writes.proofs.WriteLaws.{low-is, high-is, both-kept}
 

@@ -18,7 +18,7 @@ use Rattle.features.proofs.InsideLaws.{start-small}
 use Rattle.domains.specs.Registers.{registerPlace}
 use Rattle.domains.proofs.DomainLaws.{inside}
 use Rattle.writes.specs.Writes.{nextOf, nextFor, writeNumber, barLeft, lowLeft, highLeft}
-use Rattle.writes.proofs.FieldLaws.{limit-small}
+use Rattle.permits.proofs.PermitLaws.{limit-small}
 use Rattle.writes.proofs.NextLaws.{given-by, permitted}
 
 module _ (c : Capture) (i n limit which value : ℕ) where

@@ -8,47 +8,32 @@ use mathlib.Core.Logic.{_⊎_, _↔_, _≢_}
 use lib.ListN.{length, getD}
 use Rattle.words.specs.Answers.{refused, gives}
 use Rattle.words.specs.Bytes.{AllBytes, numberAt}
-use Rattle.words.specs.Fields.{field, bit}
+use Rattle.fields.specs.Fields.{field, bit}
 use Rattle.discovery.specs.Discovery.{Capture, captured, birOf, barOf}
 use Rattle.features.specs.Places.{startFor, sizeFor, instancePart}
 use Rattle.domains.specs.Domains.{headerIn, domainNumber}
-use Rattle.domains.specs.Facts.{Sound, Present}
+use Rattle.domains.specs.Facts.{Sound}
 use Rattle.rapl.specs.Lookups.{domainFor, contentFor}
 use Rattle.domains.specs.Registers.{registerAt}
-use Rattle.writes.specs.Writes.{placeOf, widthOf, nextContent, nextOf, nextFor, writeNumber, limitPlace, barLeft, lowLeft, highLeft}
+use Rattle.permits.specs.Permits.{placeOf, widthOf}
+use Rattle.writes.specs.Writes.{nextContent, nextOf, nextFor, writeNumber, limitPlace, barLeft, lowLeft, highLeft}
+use Rattle.permits.specs.Facts.{Absent, Shut, Open, Locked}
 
--- ---- what refuses a write, and what the register holds next
-
--- limit 1 or limit 2
-abbrev pub ALimit : ℕ → Type 0
-ALimit limit = (limit ≡ 1) ⊎ (limit ≡ 2)
-
--- one of the four fields, and not TIME_WINDOW of limit 2 in a package domain
-abbrev pub Writable : ℕ → ℕ → ℕ → Type 0
-Writable kind limit which = (which ≤ 3) × ((which ≡ 1) × (limit ≡ 2) × (kind ≡ 2) → ⊥)
-
--- the field stands open to a write: all but the number and LOCK
-pub record Open (s : List ℕ) (n limit which : ℕ) : Type 0 where
-  pub sound : Sound s n
-  pub a-limit : ALimit limit
-  pub present : Present (headerIn s n .flags) (limit + 1)
-  pub writable : Writable (headerIn s n .kind) limit which
-
--- bit 63 of the limit's register is 1
-abbrev pub Locked : List ℕ → ℕ → ℕ → Type 0
-Locked s n limit = bit 63 (registerAt s n (limit + 1)) ≡ 1
+-- ---- what the register holds next
 
 -- Complete and first wins, in the order 26, 27, 17, 18 after the domain's lookup: each number exactly on its condition and none tested before
--- it (26 is not tested for a number that is no limit's), and the next content exactly where none is.
+-- it, and the next content exactly where none is. (Absent, Shut, Open, Locked: crate permits, specs/Facts.)
 pub record NextFact (s : List ℕ) (n limit which value : ℕ) : Type 0 where
   pub handed-on : domainNumber s n ≢ 0 → nextOf s n limit which value ≡ refused (domainNumber s n)
-  pub absent : (nextOf s n limit which value ≡ refused 26) ↔ (Sound s n × ALimit limit × (Present (headerIn s n .flags) (limit + 1) → ⊥))
-  pub unwritable : (nextOf s n limit which value ≡ refused 27)
-      ↔ (Sound s n × (ALimit limit → Present (headerIn s n .flags) (limit + 1)) × (ALimit limit × Writable (headerIn s n .kind) limit which → ⊥))
-  pub wide : (nextOf s n limit which value ≡ refused 17) ↔ (Open s n limit which × (2 ^ widthOf which ≤ value))
-  pub locked : (nextOf s n limit which value ≡ refused 18) ↔ (Open s n limit which × (value < 2 ^ widthOf which) × Locked s n limit)
+  pub absent : (nextOf s n limit which value ≡ refused 26) ↔ (Sound s n × Absent (headerIn s n) limit)
+  pub unwritable : (nextOf s n limit which value ≡ refused 27) ↔ (Sound s n × Shut (headerIn s n) limit which)
+  pub wide : (nextOf s n limit which value ≡ refused 17) ↔ (Sound s n × (Open (headerIn s n) limit which × (2 ^ widthOf which ≤ value)))
+  pub locked : (nextOf s n limit which value ≡ refused 18)
+      ↔ (Sound s n × (Open (headerIn s n) limit which × (value < 2 ^ widthOf which) × Locked (registerAt s n (limit + 1))))
   pub content : (y : ℕ) → (nextOf s n limit which value ≡ gives (y ∷ []))
-      ↔ (Open s n limit which × (value < 2 ^ widthOf which) × (Locked s n limit → ⊥) × (nextContent s n limit which value ≡ y))
+      ↔ (Sound s n
+      × (Open (headerIn s n) limit which × (value < 2 ^ widthOf which) × (Locked (registerAt s n (limit + 1)) → ⊥))
+      × (nextContent s n limit which value ≡ y))
 
 -- ---- the write
 

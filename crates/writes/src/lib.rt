@@ -1,5 +1,4 @@
-// The write of one field of a limit: what refuses it (`fields`), what the register holds next (`next`), and the write into one of two lent
-// captures (`write`). No call asks anything of its caller.
-pub mod fields;
+// The write of one field of a limit: what the register holds next (`next`), and the write into one of two lent captures (`write`). No call
+// asks anything of its caller.
 pub mod next;
 pub mod write;

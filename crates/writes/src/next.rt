@@ -3,17 +3,17 @@ ghost use mathlib.Core.Path.{_≡_};
 ghost use Rattle.discovery.specs.Discovery.{captured};
 ghost use Rattle.places.specs.Told.{valued};
 ghost use Rattle.writes.specs.Writes.{nextOf, nextFor};
-use crate::fields::refusal;
-use crate::fields::span_of;
 use domains::headers::Known;
 use domains::headers::domain_in;
 use domains::headers::number_of;
 use features::instances::instance_place;
+use fields::bits::with_field;
+use permits::refusals::refusal;
+use permits::refusals::span_of;
 use places::found::Found;
 use places::found::Value;
 use places::found::part_of;
 use words::bytes::u64_at;
-use words::fields::with_field;
 
 // The whole instance is handed in, not the register alone: what is stored may come to hang on other registers of the domain.
 pub fn next_in(s: &[u8], n: u64, limit: u32, which: u32, value: u64) -> Value

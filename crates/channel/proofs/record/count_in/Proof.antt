@@ -1,7 +1,7 @@
 -- `energy::channels::count_in` meets its contract: a field of 32 bits fits 32 bits. Assumes nothing.
 use borrow.Author.Needs.{needs}
 use native.Mathlib.Omega.{arith}
-use Rattle.words.proofs.FieldLaws.{field-lt}
+use Rattle.fields.proofs.FieldLaws.{field-lt}
 use Rattle.channel.proofs.record.count_in.Statement.{statement}
 use Rattle.channel.proofs.record.count_in.Tie as tie
 

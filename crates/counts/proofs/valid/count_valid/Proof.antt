@@ -5,8 +5,8 @@ use mathlib.Core.Path.{_≡_, refl, ap, _∙_}
 use mathlib.Core.Logic.{⊎-elim}
 use native.Mathlib.Omega.{arith}
 use lib.Count.{ones}
-use Rattle.words.specs.Masks.{howMany}
-use Rattle.words.proofs.MaskLaws.{many-le, count-more}
+use Rattle.fields.specs.Masks.{howMany}
+use Rattle.fields.proofs.MaskLaws.{many-le, count-more}
 use Rattle.counts.specs.Valid.{validIn, validCountIn}
 use Rattle.counts.proofs.valid.count_valid.Statement.{statement}
 use Rattle.counts.proofs.valid.count_valid.Tie as tie

@@ -7,8 +7,8 @@ use native.Mathlib.Nat.{mul-le-mul}
 use native.Mathlib.Omega.{arith}
 use borrow.Author.Needs.{needs}
 use lib.Bits.{bitOr}
-use Rattle.words.specs.Masks.{maskOf, onwards}
-use Rattle.words.proofs.MaskLaws.{mask-set, mask-skip}
+use Rattle.fields.specs.Masks.{maskOf, onwards}
+use Rattle.fields.proofs.MaskLaws.{mask-set, mask-skip}
 use Rattle.counts.specs.Valid.{validIn}
 use Rattle.counts.proofs.valid.mask.Statement.{statement}
 use Rattle.counts.proofs.valid.mask.Tie as tie

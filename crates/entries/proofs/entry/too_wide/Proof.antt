@@ -2,7 +2,7 @@
 -- Assumes nothing.
 use mathlib.Core.Path.{sym}
 use native.Mathlib.Omega.{arith}
-use Rattle.words.proofs.TableLaws.{wider-at, fit-narrow}
+use Rattle.fields.proofs.TableLaws.{wider-at, fit-narrow}
 use Rattle.entries.specs.Entry.{widths, values}
 use Rattle.entries.proofs.entry.too_wide.Statement.{statement}
 use Rattle.entries.proofs.entry.too_wide.Tie as tie

@@ -1,5 +1,5 @@
 -- `entries::entry::word_of` meets its contract: one field after the other. Assumes nothing.
-use Rattle.words.specs.Tables.{withFields}
+use Rattle.fields.specs.Tables.{withFields}
 use borrow.Author.Needs.{needs}
 use Rattle.entries.proofs.entry.word_of.Statement.{statement}
 use Rattle.entries.proofs.entry.word_of.Tie as tie

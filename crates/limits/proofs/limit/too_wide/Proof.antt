@@ -4,7 +4,7 @@ use mathlib.Core.Path.{sym, _∙_}
 use native.Mathlib.Omega.{arith}
 use Rattle.limits.specs.Limit.{widths, values}
 use Rattle.limits.specs.declared.limit.Limit.{Limit}
-use Rattle.words.proofs.TableLaws.{wider-skip, wider-last, wider-at}
+use Rattle.fields.proofs.TableLaws.{wider-skip, wider-last, wider-at}
 use Rattle.limits.proofs.limit.too_wide.Statement.{statement}
 use Rattle.limits.proofs.limit.too_wide.Tie as tie
 

@@ -1,5 +1,5 @@
 -- `vsec::structure::high_word` meets its contract: one field after the other. Assumes nothing.
-use Rattle.words.specs.Tables.{withFields}
+use Rattle.fields.specs.Tables.{withFields}
 use borrow.Author.Needs.{needs}
 use Rattle.vsec.proofs.structure.high_word.Statement.{statement}
 use Rattle.vsec.proofs.structure.high_word.Tie as tie

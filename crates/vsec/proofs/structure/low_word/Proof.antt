@@ -1,5 +1,5 @@
 -- `vsec::structure::low_word` meets its contract: one field after the other. Assumes nothing.
-use Rattle.words.specs.Tables.{withFields}
+use Rattle.fields.specs.Tables.{withFields}
 use borrow.Author.Needs.{needs}
 use Rattle.vsec.proofs.structure.low_word.Statement.{statement}
 use Rattle.vsec.proofs.structure.low_word.Tie as tie

@@ -1,6 +1,6 @@
 -- `vsec::structure::of_words` meets its contract: each field of the 128 bits lies in one of the two words. Assumes nothing.
 use native.Mathlib.Omega.{arith}
-use Rattle.words.proofs.FieldLaws.{field-lt}
+use Rattle.fields.proofs.FieldLaws.{field-lt}
 use Rattle.vsec.proofs.StructureLaws.{of-two-words}
 use borrow.Author.Needs.{needs}
 use Rattle.vsec.proofs.structure.of_words.Statement.{statement}

@@ -3,7 +3,7 @@
 use mathlib.Core.Path.{sym}
 use native.Mathlib.Omega.{arith}
 use Rattle.words.proofs.TestLaws.{or-skip, or-take}
-use Rattle.words.proofs.TableLaws.{wider-at, fit-narrow}
+use Rattle.fields.proofs.TableLaws.{wider-at, fit-narrow}
 use Rattle.vsec.specs.Structure.{freeWidths, freeValues, tooWide}
 use Rattle.vsec.proofs.structure.too_wide.Statement.{statement}
 use Rattle.vsec.proofs.structure.too_wide.Tie as tie

@@ -2,8 +2,8 @@
 use mathlib.Core.Path.{_≡_, sym, ap, _∙_}
 use mathlib.Core.Logic.{⊎-elim}
 use native.Mathlib.Omega.{arith}
-use Rattle.words.specs.Fields.{field}
-use Rattle.words.proofs.FieldLaws.{field-lt}
+use Rattle.fields.specs.Fields.{field}
+use Rattle.fields.proofs.FieldLaws.{field-lt}
 use Rattle.walk.specs.Walk.{stops, followed, identifierAt, nextAt, vsecIdAt}
 use Rattle.walk.proofs.WalkLaws.{header-cut, header-tpmi, header-other-id, header-other}
 use borrow.Author.Needs.{needs}

@@ -4,8 +4,8 @@ use mathlib.Core.Path.{_≡_}
 use native.Mathlib.Omega.{arith}
 use lib.Pow.{shl-exact}
 use borrow.Author.Needs.{needs}
-use Rattle.words.specs.Fields.{field}
-use Rattle.words.proofs.FieldLaws.{field-lt}
+use Rattle.fields.specs.Fields.{field}
+use Rattle.fields.proofs.FieldLaws.{field-lt}
 use Rattle.windows.specs.Windows.{quartersOf}
 use Rattle.windows.proofs.CodeLaws.{x-lt, y-lt}
 use Rattle.windows.proofs.codes.quarters.Statement.{statement}

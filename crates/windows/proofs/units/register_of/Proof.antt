@@ -1,5 +1,5 @@
 -- `windows::units::register_of` meets its contract: one field after the other. Assumes nothing.
-use Rattle.words.specs.Tables.{withFields}
+use Rattle.fields.specs.Tables.{withFields}
 use borrow.Author.Needs.{needs}
 use Rattle.windows.proofs.units.register_of.Statement.{statement}
 use Rattle.windows.proofs.units.register_of.Tie as tie

@@ -4,7 +4,7 @@ use mathlib.Core.Path.{sym, _∙_}
 use native.Mathlib.Omega.{arith}
 use Rattle.windows.specs.Units.{widths, values}
 use Rattle.windows.specs.declared.units.Units.{Units}
-use Rattle.words.proofs.TableLaws.{wider-skip, wider-last, wider-at}
+use Rattle.fields.proofs.TableLaws.{wider-skip, wider-last, wider-at}
 use Rattle.windows.proofs.units.too_wide.Statement.{statement}
 use Rattle.windows.proofs.units.too_wide.Tie as tie
 

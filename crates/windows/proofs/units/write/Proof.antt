@@ -3,7 +3,7 @@ use mathlib.Core.Path.{sym, ap, _∙_}
 use mathlib.Core.List.{[], _∷_}
 use Prim.Native.Nat.{ℕ}
 use Rattle.words.specs.Answers.{gives}
-use Rattle.words.proofs.Structures.{word-wide, word-right}
+use Rattle.fields.proofs.Structures.{word-wide, word-right}
 use Rattle.windows.specs.Units.{widths, values}
 use borrow.Author.Needs.{needs}
 use Rattle.windows.proofs.units.write.Statement.{statement}

@@ -3,13 +3,13 @@ use Prim.Native.Nat.{_≤_}
 use mathlib.Core.Path.{_≡_, sym, ap, _∙_}
 use native.Mathlib.Omega.{arith}
 use Rattle.words.specs.Answers.{refused, gives, numberIn}
-use Rattle.words.specs.Fields.{fieldStored}
+use Rattle.fields.specs.Fields.{fieldStored}
 use Rattle.domains.specs.Domains.{values, domainOf}
 use Rattle.domains.specs.Registers.{registerAt}
 use Rattle.domains.specs.Told.{told}
 use Rattle.domains.proofs.DomainLaws.{known, inside}
-use Rattle.writes.specs.declared.fields.Span.{Span}
-use Rattle.writes.proofs.FieldLaws.{stored-whole}
+use Rattle.permits.specs.declared.refusals.Span.{Span}
+use Rattle.permits.proofs.PermitLaws.{stored-whole}
 use Rattle.writes.proofs.NextLaws.{next-refused, next-stops, next-given}
 use borrow.Author.Needs.{needs}
 use Rattle.writes.proofs.next.next_in.Statement.{statement}

@@ -1,0 +1,4 @@
+pub mod Fields
+pub mod Tables
+pub mod Masks
+pub mod Facts

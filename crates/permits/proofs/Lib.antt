@@ -1,0 +1,2 @@
+pub mod PermitLaws
+pub mod PermitFact

@@ -1,0 +1,2 @@
+pub mod Permits
+pub mod Facts
