@@ -8,7 +8,7 @@ use crate::lines::refused;
 use crate::lines::text;
 use crate::lines::value;
 use domains::headers::Known;
-use domains::lookups;
+use rapl::lookups;
 use words::bytes::store_u64;
 use words::bytes::u64_at;
 

@@ -1,8 +1,7 @@
-// How a line is written: words, numbers, bytes, and what each answer says.
+// How a line is written: words, numbers, and what each answer says.
 use libc::STDOUT_FILENO;
 use places::found::Found;
 use places::found::Value;
-use words::bytes::u8_at;
 
 pub(crate) fn text(words: &[u8]) {
     io::write_all(STDOUT_FILENO, words);
@@ -20,14 +19,6 @@ pub(crate) fn number(words: &[u8], n: u64) {
 pub(crate) fn hex(words: &[u8], n: u64) {
     text(words);
     io::print_hex(STDOUT_FILENO, n, 1);
-}
-
-// The bytes of a part in their order.
-pub(crate) fn bytes(part: &[u8]) {
-    for k in 0..part.len() {
-        text(b" ");
-        io::print_hex(STDOUT_FILENO, u8_at(part, k) as u64, 2);
-    }
 }
 
 pub(crate) fn refused(n: u8) {

@@ -1,8 +1,6 @@
-// Document 01's bench cases that are not in the table of the crate stamp, and worked examples from documents 000 and 001: each is asked
-// of the code, and one line says what was asked and what came.
+// Document 01's bench cases over a capture that are not in the table of the crate stamp, and document 000's layout sheet: each is asked of
+// the code, and one line says what was asked and what came.
 mod board;
-mod channels;
-mod layouts;
 mod lines;
 mod sheet;
 
@@ -40,13 +38,5 @@ fn captures() {
 }
 
 fn main() {
-    channels::gaps();
-    channels::turnover();
-    layouts::structure();
-    layouts::entry();
-    layouts::units();
-    layouts::windows();
-    layouts::headers();
-    layouts::limit();
     captures();
 }

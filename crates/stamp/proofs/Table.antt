@@ -21,7 +21,7 @@ use Rattle.domains.specs.Domains as domains
 use Rattle.domains.specs.Domains.{headerOf, headerIn, unused, wrong, domainNumber}
 use Rattle.domains.specs.Registers.{present, registerAt, absent, contentNumber, contentOf}
 use Rattle.rapl.specs.Lookups.{contentFor}
-use Rattle.writes.specs.Writes as writes
+use Rattle.permits.specs.Permits as permits
 use Rattle.permits.specs.Permits.{widthOf, aLimit, unwritable, refusalOf}
 use Rattle.writes.specs.Writes.{nextContent, nextNumber, nextOf, nextFor, writeNumber, barLeft, lowLeft, highLeft}
 use Rattle.channel.specs.Channels.{inRange, isOpen, tests, values, taken}
@@ -68,7 +68,7 @@ rows-fact rs = (rows-due rs, due-rows rs)
 -- ---- the table
 
 pub table-fact : TableFact
-unfolding first orElse earliest anyBelow firstBelow least numberAt put field withField vsecOf vsecAt fixedWrong readNumber readOf identifierAt nextAt vsecIdAt followed takenAt headerAt walkFrom emptyList walkOf entryOf entryAt bankOf bankIn emptyBank repeats meets faultAt faultsOf structureOf barOf misshapen beforeWalk birNumber tableNumber numberOf discoveryOf indexIn missing bankFor featureNumber featureOf invalidAt unsound instanceNumber instancePart quartersOf longEnough placeOf windowNumber windowOf headerOf headerIn unused wrong domains.missing domains.unsound domainNumber present registerAt absent contentNumber contentOf contentFor writes.placeOf widthOf aLimit unwritable refusalOf nextContent nextNumber nextOf nextFor writeNumber barLeft lowLeft highLeft inRange isOpen tests values taken testsOn answerOn leavesOn
+unfolding first orElse earliest anyBelow firstBelow least numberAt put field withField vsecOf vsecAt fixedWrong readNumber readOf identifierAt nextAt vsecIdAt followed takenAt headerAt walkFrom emptyList walkOf entryOf entryAt bankOf bankIn emptyBank repeats meets faultAt faultsOf structureOf barOf misshapen beforeWalk birNumber tableNumber numberOf discoveryOf indexIn missing bankFor featureNumber featureOf invalidAt unsound instanceNumber instancePart quartersOf longEnough placeOf windowNumber windowOf headerOf headerIn unused wrong domains.missing domains.unsound domainNumber present registerAt absent contentNumber contentOf contentFor permits.placeOf widthOf aLimit unwritable refusalOf nextContent nextNumber nextOf nextFor writeNumber barLeft lowLeft highLeft inRange isOpen tests values taken testsOn answerOn leavesOn
 table-fact = refl
 
 -- so every row is an equation

@@ -2,13 +2,16 @@
 -- that is injective. Assumes nothing.
 use mathlib.Core.Path.{sym, _∙_}
 use Rattle.vsec.proofs.Theorems as vsec
+use Rattle.walk.proofs.Told as walk
 use Rattle.entries.proofs.Theorems as entries
-use Rattle.places.proofs.Told as features
+use Rattle.places.proofs.Told as places
+use Rattle.captures.proofs.Told as captures
 use Rattle.listing.proofs.Told as listing
 use Rattle.windows.proofs.Theorems as windows
 use Rattle.domains.proofs.Told as domains
+use Rattle.channel.proofs.Theorems as channel
 use Rattle.energy.proofs.Theorems as energy
-use Rattle.stamp.specs.Unique.{WordsUnique, VsecUnique, EntriesUnique, FeaturesUnique, ListingUnique, WindowsUnique, DomainsUnique, LimitsUnique, EnergyUnique}
+use Rattle.stamp.specs.Unique.{WordsUnique, FieldsUnique, VsecUnique, WalkUnique, EntriesUnique, BanksUnique, PlacesUnique, DiscoveryUnique, FeaturesUnique, RegistersUnique, CountsUnique, CapturesUnique, ListingUnique, WindowsUnique, DomainsUnique, RaplUnique, LimitsUnique, PermitsUnique, WritesUnique, ChannelUnique, EnergyUnique}
 
 pub words-unique : WordsUnique
 words-unique =
@@ -21,6 +24,11 @@ words-unique =
       store-u16 = λ κs a x y s t p q. p ∙ sym q;
       store-u32 = λ κs a x y s t p q. p ∙ sym q;
       store-u64 = λ κs a x y s t p q. p ∙ sym q;
+    }
+
+pub fields-unique : FieldsUnique
+fields-unique =
+    record {
       field = λ κs a x y s t p q. p ∙ sym q;
       with-field = λ κs a x y s t p q. p ∙ sym q;
     }
@@ -28,11 +36,17 @@ words-unique =
 pub vsec-unique : VsecUnique
 vsec-unique =
     record {
-      walk = λ κs a x y s t p q. vsec.walked-once x y (p ∙ sym q);
       vsec-at = λ κs a x y s t p q. p ∙ sym q;
       read-call = λ κs a x y s t p q. vsec.decoded-once x y (p ∙ sym q);
-      write-call-kept = λ κs a x y s t p q. p .1 ∙ sym (q .1);
       write-call = λ κs a x y s t p q. p .0 ∙ sym (q .0);
+      write-call-kept = λ κs a x y s t p q. p .1 ∙ sym (q .1);
+      fixed-wrong = λ κs a x y s t p q. p ∙ sym q;
+    }
+
+pub walk-unique : WalkUnique
+walk-unique =
+    record {
+      walk = λ κs a x y s t p q. walk.walked-once x y (p ∙ sym q);
     }
 
 pub entries-unique : EntriesUnique
@@ -40,38 +54,68 @@ entries-unique =
     record {
       entry-at = λ κs a x y s t p q. p ∙ sym q;
       read-call = λ κs a x y s t p q. entries.decoded-once x y (p ∙ sym q);
-      write-call-kept = λ κs a x y s t p q. p .1 ∙ sym (q .1);
       write-call = λ κs a x y s t p q. p .0 ∙ sym (q .0);
+      write-call-kept = λ κs a x y s t p q. p .1 ∙ sym (q .1);
+    }
+
+pub banks-unique : BanksUnique
+banks-unique =
+    record {
       bank-in = λ κs a x y s t p q. p ∙ sym q;
       empty = λ κs a x y s t p q. p ∙ sym q;
       fault = λ κs a x y s t p q. p ∙ sym q;
       faults = λ κs a x y s t p q. p ∙ sym q;
     }
 
-pub features-unique : FeaturesUnique
-features-unique =
+pub places-unique : PlacesUnique
+places-unique =
     record {
-      discover = λ κs a x y s t p q. features.told-once x y (p ∙ sym q);
-      feature = λ κs a x y s t p q. features.told-once x y (p ∙ sym q);
-      instance-place = λ κs a x y s t p q. features.told-once x y (p ∙ sym q);
-      instance = λ κs a x y s t p q. p ∙ sym q;
-      instance-number = λ κs a x y s t p q. p ∙ sym q;
       number-of = λ κs a x y s t p q. p ∙ sym q;
       bar-of = λ κs a x y s t p q. p ∙ sym q;
       part-of = λ κs a x y s t p q. p ∙ sym q;
-      register-place = λ κs a x y s t p q. features.told-once x y (p ∙ sym q);
-      register = λ κs a x y s t p q. features.valued-once x y (p ∙ sym q);
-      valid-count = λ κs a x y s t p q. features.valued-once x y (p ∙ sym q);
+    }
+
+pub discovery-unique : DiscoveryUnique
+discovery-unique =
+    record {
+      discover = λ κs a x y s t p q. places.told-once x y (p ∙ sym q);
+    }
+
+pub features-unique : FeaturesUnique
+features-unique =
+    record {
+      feature = λ κs a x y s t p q. places.told-once x y (p ∙ sym q);
+      instance-place = λ κs a x y s t p q. places.told-once x y (p ∙ sym q);
+      instance = λ κs a x y s t p q. p ∙ sym q;
+      instance-number = λ κs a x y s t p q. p ∙ sym q;
+    }
+
+pub registers-unique : RegistersUnique
+registers-unique =
+    record {
+      register-place = λ κs a x y s t p q. places.told-once x y (p ∙ sym q);
+      register = λ κs a x y s t p q. places.valued-once x y (p ∙ sym q);
+    }
+
+pub counts-unique : CountsUnique
+counts-unique =
+    record {
+      valid-count = λ κs a x y s t p q. places.valued-once x y (p ∙ sym q);
       valid-in = λ κs a x y s t p q. p ∙ sym q;
+    }
+
+pub captures-unique : CapturesUnique
+captures-unique =
+    record {
+      layout-of = λ κs a x y s t p q. captures.laid-once x y (p ∙ sym q);
+      config-in = λ κs a x y s t p q. p ∙ sym q;
+      low-in = λ κs a x y s t p q. p ∙ sym q;
+      high-in = λ κs a x y s t p q. p ∙ sym q;
     }
 
 pub listing-unique : ListingUnique
 listing-unique =
     record {
-      layout-of = λ κs a x y s t p q. listing.laid-once x y (p ∙ sym q);
-      config-in = λ κs a x y s t p q. p ∙ sym q;
-      low-in = λ κs a x y s t p q. p ∙ sym q;
-      high-in = λ κs a x y s t p q. p ∙ sym q;
       listing-of = λ κs a x y s t p q. listing.listed-once x y (p ∙ sym q);
       bar-in = λ κs a x y s t p q. p ∙ sym q;
       line-of = λ κs a x y s t p q. listing.said-once x y (p ∙ sym q);
@@ -93,23 +137,48 @@ domains-unique =
       number-of = λ κs a x y s t p q. p ∙ sym q;
       domain-in = λ κs a x y s t p q. domains.told-once x y (p ∙ sym q);
       present = λ κs a x y s t p q. p ∙ sym q;
-      register-in = λ κs a x y s t p q. features.valued-once x y (p ∙ sym q);
-      chain-in = λ κs a x y s t p q. features.valued-once x y (p ∙ sym q);
+      register-in = λ κs a x y s t p q. places.valued-once x y (p ∙ sym q);
+    }
+
+pub rapl-unique : RaplUnique
+rapl-unique =
+    record {
+      chain-in = λ κs a x y s t p q. places.valued-once x y (p ∙ sym q);
       domain = λ κs a x y s t p q. domains.told-once x y (p ∙ sym q);
-      register = λ κs a x y s t p q. features.valued-once x y (p ∙ sym q);
-      chain = λ κs a x y s t p q. features.valued-once x y (p ∙ sym q);
+      register = λ κs a x y s t p q. places.valued-once x y (p ∙ sym q);
+      chain = λ κs a x y s t p q. places.valued-once x y (p ∙ sym q);
     }
 
 pub limits-unique : LimitsUnique
 limits-unique =
     record {
       read-call = λ κs a x y s t p q. p ∙ sym q;
-      limit-write = λ κs a x y s t p q. windows.written-once x y (p ∙ sym q);
-      next-in = λ κs a x y s t p q. features.valued-once x y (p ∙ sym q);
-      next = λ κs a x y s t p q. features.valued-once x y (p ∙ sym q);
-      write-write-low = λ κs a x y s t p q. p .1 .0 ∙ sym (q .1 .0);
-      write-write-high = λ κs a x y s t p q. p .1 .1 ∙ sym (q .1 .1);
-      write-write = λ κs a x y s t p q. p .0 ∙ sym (q .0);
+      write-call = λ κs a x y s t p q. windows.written-once x y (p ∙ sym q);
+    }
+
+pub permits-unique : PermitsUnique
+permits-unique =
+    record {
+      span-of = λ κs a x y s t p q. p ∙ sym q;
+      refusal = λ κs a x y s t p q. p ∙ sym q;
+    }
+
+pub writes-unique : WritesUnique
+writes-unique =
+    record {
+      next-in = λ κs a x y s t p q. places.valued-once x y (p ∙ sym q);
+      next = λ κs a x y s t p q. places.valued-once x y (p ∙ sym q);
+      write-call = λ κs a x y s t p q. p .0 ∙ sym (q .0);
+      write-call-low = λ κs a x y s t p q. p .1 .0 ∙ sym (q .1 .0);
+      write-call-high = λ κs a x y s t p q. p .1 .1 ∙ sym (q .1 .1);
+    }
+
+pub channel-unique : ChannelUnique
+channel-unique =
+    record {
+      take = λ κs a x y s t p q. channel.one-after _ _ x y (p .0) (p .1) (q .0) (q .1);
+      closed-channel = λ κs a x y s t p q. p ∙ sym q;
+      share = λ κs a x y s t p q. p ∙ sym q;
     }
 
 pub energy-unique : EnergyUnique
@@ -121,7 +190,6 @@ energy-unique =
       read-call = λ κs a x y s t p q. energy.one-hall-after _ _ _ x y (p .0) (p .1) (q .0) (q .1);
       resume = λ κs a x y s t p q. energy.one-hall-after _ _ _ x y (p .0) (p .1) (q .0) (q .1);
       close-call = λ κs a x y s t p q. energy.one-hall-after _ _ _ x y (p .0) (p .1) (q .0) (q .1);
-      total = λ κs a x y s t p q. energy.told-once x y (p ∙ sym q);
-      hall-total = λ κs a x y s t p q. energy.told-once x y (p ∙ sym q);
-      take = λ κs a x y s t p q. energy.one-after _ _ x y (p .0) (p .1) (q .0) (q .1);
+      total = λ κs a x y s t p q. channel.told-once x y (p ∙ sym q);
+      hall-total = λ κs a x y s t p q. channel.told-once x y (p ∙ sym q);
     }

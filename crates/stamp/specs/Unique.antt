@@ -15,35 +15,36 @@ use Rattle.words.proofs.bytes.store_u8.Reads as words-store-u8
 use Rattle.words.proofs.bytes.store_u16.Reads as words-store-u16
 use Rattle.words.proofs.bytes.store_u32.Reads as words-store-u32
 use Rattle.words.proofs.bytes.store_u64.Reads as words-store-u64
-use Rattle.fields.proofs.bits.field.Reads as words-field
-use Rattle.fields.proofs.bits.with_field.Reads as words-with-field
-use Rattle.walk.proofs.capabilities.walk.Reads as vsec-walk
+use Rattle.fields.proofs.bits.field.Reads as fields-field
+use Rattle.fields.proofs.bits.with_field.Reads as fields-with-field
 use Rattle.vsec.proofs.structure.vsec_at.Reads as vsec-vsec-at
 use Rattle.vsec.proofs.structure.read.Reads as vsec-read
 use Rattle.vsec.proofs.structure.write.Reads as vsec-write
+use Rattle.vsec.proofs.structure.fixed_wrong.Reads as vsec-fixed-wrong
+use Rattle.walk.proofs.capabilities.walk.Reads as walk-walk
 use Rattle.entries.proofs.entry.entry_at.Reads as entries-entry-at
 use Rattle.entries.proofs.entry.read.Reads as entries-read
 use Rattle.entries.proofs.entry.write.Reads as entries-write
-use Rattle.banks.proofs.faults.bank_in.Reads as entries-bank-in
-use Rattle.banks.proofs.faults.empty.Reads as entries-empty
-use Rattle.banks.proofs.faults.fault.Reads as entries-fault
-use Rattle.banks.proofs.faults.faults.Reads as entries-faults
-use Rattle.discovery.proofs.table.discover.Reads as features-discover
+use Rattle.banks.proofs.faults.bank_in.Reads as banks-bank-in
+use Rattle.banks.proofs.faults.empty.Reads as banks-empty
+use Rattle.banks.proofs.faults.fault.Reads as banks-fault
+use Rattle.banks.proofs.faults.faults.Reads as banks-faults
+use Rattle.places.proofs.found.number_of.Reads as places-number-of
+use Rattle.places.proofs.found.bar_of.Reads as places-bar-of
+use Rattle.places.proofs.found.part_of.Reads as places-part-of
+use Rattle.discovery.proofs.table.discover.Reads as discovery-discover
 use Rattle.features.proofs.instances.feature.Reads as features-feature
 use Rattle.features.proofs.instances.instance_place.Reads as features-instance-place
 use Rattle.features.proofs.instances.instance.Reads as features-instance
 use Rattle.features.proofs.instances.instance_number.Reads as features-instance-number
-use Rattle.places.proofs.found.number_of.Reads as features-number-of
-use Rattle.places.proofs.found.bar_of.Reads as features-bar-of
-use Rattle.places.proofs.found.part_of.Reads as features-part-of
-use Rattle.registers.proofs.lookup.register_place.Reads as features-register-place
-use Rattle.registers.proofs.lookup.register.Reads as features-register
-use Rattle.counts.proofs.valid.valid_count.Reads as features-valid-count
-use Rattle.counts.proofs.valid.valid_in.Reads as features-valid-in
-use Rattle.captures.proofs.layout.layout_of.Reads as listing-layout-of
-use Rattle.captures.proofs.layout.config_in.Reads as listing-config-in
-use Rattle.captures.proofs.layout.low_in.Reads as listing-low-in
-use Rattle.captures.proofs.layout.high_in.Reads as listing-high-in
+use Rattle.registers.proofs.lookup.register_place.Reads as registers-register-place
+use Rattle.registers.proofs.lookup.register.Reads as registers-register
+use Rattle.counts.proofs.valid.valid_count.Reads as counts-valid-count
+use Rattle.counts.proofs.valid.valid_in.Reads as counts-valid-in
+use Rattle.captures.proofs.layout.layout_of.Reads as captures-layout-of
+use Rattle.captures.proofs.layout.config_in.Reads as captures-config-in
+use Rattle.captures.proofs.layout.low_in.Reads as captures-low-in
+use Rattle.captures.proofs.layout.high_in.Reads as captures-high-in
 use Rattle.listing.proofs.lines.listing_of.Reads as listing-listing-of
 use Rattle.listing.proofs.lines.bar_in.Reads as listing-bar-in
 use Rattle.listing.proofs.lines.line_of.Reads as listing-line-of
@@ -56,15 +57,20 @@ use Rattle.domains.proofs.headers.number_of.Reads as domains-number-of
 use Rattle.domains.proofs.headers.domain_in.Reads as domains-domain-in
 use Rattle.domains.proofs.registers.present.Reads as domains-present
 use Rattle.domains.proofs.registers.register_in.Reads as domains-register-in
-use Rattle.rapl.proofs.chains.chain_in.Reads as domains-chain-in
-use Rattle.rapl.proofs.lookups.domain.Reads as domains-domain
-use Rattle.rapl.proofs.lookups.register.Reads as domains-register
-use Rattle.rapl.proofs.lookups.chain.Reads as domains-chain
+use Rattle.rapl.proofs.chains.chain_in.Reads as rapl-chain-in
+use Rattle.rapl.proofs.lookups.domain.Reads as rapl-domain
+use Rattle.rapl.proofs.lookups.register.Reads as rapl-register
+use Rattle.rapl.proofs.lookups.chain.Reads as rapl-chain
 use Rattle.limits.proofs.limit.read.Reads as limits-read
-use Rattle.limits.proofs.limit.write.Reads as limits-limit-write
-use Rattle.writes.proofs.next.next_in.Reads as limits-next-in
-use Rattle.writes.proofs.next.next.Reads as limits-next
-use Rattle.writes.proofs.write.write.Reads as limits-write-write
+use Rattle.limits.proofs.limit.write.Reads as limits-write
+use Rattle.permits.proofs.refusals.span_of.Reads as permits-span-of
+use Rattle.permits.proofs.refusals.refusal.Reads as permits-refusal
+use Rattle.writes.proofs.next.next_in.Reads as writes-next-in
+use Rattle.writes.proofs.next.next.Reads as writes-next
+use Rattle.writes.proofs.write.write.Reads as writes-write
+use Rattle.channel.proofs.record.Channel.take.Reads as channel-take
+use Rattle.channel.proofs.record.closed_channel.Reads as channel-closed-channel
+use Rattle.channel.proofs.record.Channel.share.Reads as channel-share
 use Rattle.energy.proofs.hall.all_closed.Reads as energy-all-closed
 use Rattle.energy.proofs.hall.call_on.Reads as energy-call-on
 use Rattle.energy.proofs.hall.open.Reads as energy-open
@@ -73,7 +79,6 @@ use Rattle.energy.proofs.hall.resume.Reads as energy-resume
 use Rattle.energy.proofs.hall.close.Reads as energy-close
 use Rattle.energy.proofs.hall.total.Reads as energy-total
 use Rattle.energy.proofs.hall.hall_total.Reads as energy-hall-total
-use Rattle.channel.proofs.record.Channel.take.Reads as energy-take
 
 abbrev pub Fixes : {L : Type 0} {A R E B : L → Type 0} → ((κs : L) → R κs → E κs → B κs) → ((κs : L) → A κs → R κs → E κs → Type 0) → Type 0
 Fixes {L} {A} {R} {E} out P = (κs : L) (a : A κs) (x y : R κs) (s t : E κs) → P κs a x s → P κs a y t → out κs x s ≡ out κs y t
@@ -90,45 +95,62 @@ pub record WordsUnique : Type 0 where
   pub store-u16 : Fixes (λ κs x s. now (s .0)) words-store-u16.Post
   pub store-u32 : Fixes (λ κs x s. now (s .0)) words-store-u32.Post
   pub store-u64 : Fixes (λ κs x s. now (s .0)) words-store-u64.Post
-  pub field : Only words-field.Post
-  pub with-field : Only words-with-field.Post
+
+pub record FieldsUnique : Type 0 where
+  pub field : Only fields-field.Post
+  pub with-field : Only fields-with-field.Post
 
 pub record VsecUnique : Type 0 where
-  pub walk : Only vsec-walk.Post
   pub vsec-at : Only vsec-vsec-at.Post
   pub read-call : Only vsec-read.Post
   pub write-call : Only vsec-write.Post
   pub write-call-kept : Fixes (λ κs x s. now (s .0)) vsec-write.Post
+  pub fixed-wrong : Only vsec-fixed-wrong.Post
+
+pub record WalkUnique : Type 0 where
+  pub walk : Only walk-walk.Post
 
 pub record EntriesUnique : Type 0 where
   pub entry-at : Only entries-entry-at.Post
   pub read-call : Only entries-read.Post
   pub write-call : Only entries-write.Post
   pub write-call-kept : Fixes (λ κs x s. now (s .0)) entries-write.Post
-  pub bank-in : Only entries-bank-in.Post
-  pub empty : Only entries-empty.Post
-  pub fault : Only entries-fault.Post
-  pub faults : Only entries-faults.Post
+
+pub record BanksUnique : Type 0 where
+  pub bank-in : Only banks-bank-in.Post
+  pub empty : Only banks-empty.Post
+  pub fault : Only banks-fault.Post
+  pub faults : Only banks-faults.Post
+
+pub record PlacesUnique : Type 0 where
+  pub number-of : Only places-number-of.Post
+  pub bar-of : Fixes (λ κs x s. now x) places-bar-of.Post
+  pub part-of : Fixes (λ κs x s. now x) places-part-of.Post
+
+pub record DiscoveryUnique : Type 0 where
+  pub discover : Only discovery-discover.Post
 
 pub record FeaturesUnique : Type 0 where
-  pub discover : Only features-discover.Post
   pub feature : Only features-feature.Post
   pub instance-place : Only features-instance-place.Post
   pub instance : Fixes (λ κs x s. now x) features-instance.Post
   pub instance-number : Only features-instance-number.Post
-  pub number-of : Only features-number-of.Post
-  pub bar-of : Fixes (λ κs x s. now x) features-bar-of.Post
-  pub part-of : Fixes (λ κs x s. now x) features-part-of.Post
-  pub register-place : Only features-register-place.Post
-  pub register : Only features-register.Post
-  pub valid-count : Only features-valid-count.Post
-  pub valid-in : Only features-valid-in.Post
+
+pub record RegistersUnique : Type 0 where
+  pub register-place : Only registers-register-place.Post
+  pub register : Only registers-register.Post
+
+pub record CountsUnique : Type 0 where
+  pub valid-count : Only counts-valid-count.Post
+  pub valid-in : Only counts-valid-in.Post
+
+pub record CapturesUnique : Type 0 where
+  pub layout-of : Only captures-layout-of.Post
+  pub config-in : Fixes (λ κs x s. now x) captures-config-in.Post
+  pub low-in : Fixes (λ κs x s. now x) captures-low-in.Post
+  pub high-in : Fixes (λ κs x s. now x) captures-high-in.Post
 
 pub record ListingUnique : Type 0 where
-  pub layout-of : Only listing-layout-of.Post
-  pub config-in : Fixes (λ κs x s. now x) listing-config-in.Post
-  pub low-in : Fixes (λ κs x s. now x) listing-low-in.Post
-  pub high-in : Fixes (λ κs x s. now x) listing-high-in.Post
   pub listing-of : Only listing-listing-of.Post
   pub bar-in : Fixes (λ κs x s. now x) listing-bar-in.Post
   pub line-of : Only listing-line-of.Post
@@ -145,19 +167,32 @@ pub record DomainsUnique : Type 0 where
   pub domain-in : Only domains-domain-in.Post
   pub present : Only domains-present.Post
   pub register-in : Only domains-register-in.Post
-  pub chain-in : Only domains-chain-in.Post
-  pub domain : Only domains-domain.Post
-  pub register : Only domains-register.Post
-  pub chain : Only domains-chain.Post
+
+pub record RaplUnique : Type 0 where
+  pub chain-in : Only rapl-chain-in.Post
+  pub domain : Only rapl-domain.Post
+  pub register : Only rapl-register.Post
+  pub chain : Only rapl-chain.Post
 
 pub record LimitsUnique : Type 0 where
   pub read-call : Only limits-read.Post
-  pub limit-write : Only limits-limit-write.Post
-  pub next-in : Only limits-next-in.Post
-  pub next : Only limits-next.Post
-  pub write-write : Only limits-write-write.Post
-  pub write-write-low : Fixes (λ κs x s. now (s .1 .1 .0)) limits-write-write.Post
-  pub write-write-high : Fixes (λ κs x s. now (s .1 .1 .1 .1 .0)) limits-write-write.Post
+  pub write-call : Only limits-write.Post
+
+pub record PermitsUnique : Type 0 where
+  pub span-of : Only permits-span-of.Post
+  pub refusal : Only permits-refusal.Post
+
+pub record WritesUnique : Type 0 where
+  pub next-in : Only writes-next-in.Post
+  pub next : Only writes-next.Post
+  pub write-call : Only writes-write.Post
+  pub write-call-low : Fixes (λ κs x s. now (s .1 .1 .0)) writes-write.Post
+  pub write-call-high : Fixes (λ κs x s. now (s .1 .1 .1 .1 .0)) writes-write.Post
+
+pub record ChannelUnique : Type 0 where
+  pub take : Only channel-take.Post
+  pub closed-channel : Only channel-closed-channel.Post
+  pub share : Only channel-share.Post
 
 pub record EnergyUnique : Type 0 where
   pub all-closed : Only energy-all-closed.Post
@@ -168,4 +203,3 @@ pub record EnergyUnique : Type 0 where
   pub close-call : Only energy-close.Post
   pub total : Only energy-total.Post
   pub hall-total : Only energy-hall-total.Post
-  pub take : Only energy-take.Post

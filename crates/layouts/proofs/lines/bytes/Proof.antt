@@ -1,8 +1,8 @@
--- `bench::lines::bytes` is safe and ends: the measure is the bytes left. Assumes nothing.
+-- `layouts::lines::bytes` is safe and ends: the measure is the bytes left. Assumes nothing.
 use Prim.Native.Nat.{_-_, _≤_}
 use borrow.Author.Needs.{needs}
-use Rattle.bench.proofs.lines.bytes.Statement.{statement}
-use Rattle.bench.proofs.lines.bytes.Tie as tie
+use Rattle.layouts.proofs.lines.bytes.Statement.{statement}
+use Rattle.layouts.proofs.lines.bytes.Tie as tie
 
 abbrev Inv-loop : tie.InvT-loop
 Inv-loop part k₀ t3 k-end k = k ≤ k-end
