@@ -1,4 +1,4 @@
-// The RAPL domains of document 001's register layout example, in the bank of the sheet's first feature: socket, memory and platform.
+// The RAPL domains of document 001's register layout example, socket, memory and platform, in a capture with one feature.
 use crate::lines::content;
 use crate::lines::end;
 use crate::lines::hex;
@@ -9,12 +9,21 @@ use crate::lines::text;
 use crate::lines::value;
 use domains::headers::Known;
 use rapl::lookups;
+use words::bytes::store_u16;
 use words::bytes::store_u64;
 use words::bytes::u64_at;
 
-// Headers with the registers that the example lists, at 0, 0x80 and 0x100; 001's default units; the socket's energy status and limit
+// Vendor word, and at 0x100 the VSEC structure: 1 entry of 2 words, tBIR 1, table at 2,000.
+pub(crate) fn set_config(config: &mut [u8]) {
+    store_u16(config, 0, 0x8086);
+    store_u64(config, 0x100, 0x0101_0042_0001_000B);
+    store_u64(config, 0x108, 0x0000_07D1_0201_0000);
+}
+
+// The entry: one instance of 96 words, 4 KiB from the table. Headers with the registers that the example lists, at 0, 0x80 and 0x100; 001's default units; the socket's energy status and limit
 // info. The platform is a root, the socket is under it and the memory under the socket.
 pub(crate) fn set_domains(bar: &mut [u8]) {
+    store_u64(bar, 2000, 0x0001_0004_0060_0100);
     store_u64(bar, 6096, 0x0000_03AF_0201_0201);
     store_u64(bar, 6104, 0xA383);
     store_u64(bar, 6152, 0x1234_5678_FFFF_FFF0);

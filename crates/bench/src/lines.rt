@@ -1,6 +1,5 @@
 // How a line is written: words, numbers, and what each answer says.
 use libc::STDOUT_FILENO;
-use places::found::Found;
 use places::found::Value;
 
 pub(crate) fn text(words: &[u8]) {
@@ -33,19 +32,6 @@ pub(crate) fn outcome(n: u8) {
         return;
     }
     refused(n);
-}
-
-pub(crate) fn place(found: Found) {
-    match found {
-        Found::At(p) => {
-            number(b": BAR ", p.bir as u64);
-            number(b" at ", p.start as u64);
-            number(b", ", p.count as u64);
-            number(b" of ", p.size as u64);
-            text(b" bytes\n");
-        }
-        Found::Refused(n) => refused(n),
-    }
 }
 
 pub(crate) fn value(came: Value) {

@@ -1,19 +1,10 @@
-// Document 01's bench cases over a capture that are not in the table of the crate stamp, and document 000's layout sheet: each is asked of
-// the code, and one line says what was asked and what came.
+// Document 01's bench cases of RAPL domains and limit writes that are not in the table of the crate stamp, over the domains of document
+// 001's register layout example: each is asked of the code, and one line says what was asked and what came.
 mod board;
 mod lines;
-mod sheet;
-
-fn fill(bar: &mut [u8]) {
-    sheet::set_table(bar);
-    board::set_domains(bar);
-}
 
 // Nothing is changed by these.
 fn lookups<'a>(config: &[u8], low: &'a [u8], high: &'a [u8]) {
-    sheet::discovery(config, low, high);
-    sheet::features(config, low, high);
-    sheet::registers(config, low, high);
     board::domains(config, low, high);
     board::registers(config, low, high);
     board::chains(config, low, high);
@@ -25,18 +16,14 @@ fn writes(config: &[u8], low: &mut [u8], high: &mut [u8]) {
     board::locked(config, low, high);
 }
 
-// The configuration space of 000's sheet, and two BAR captures with the same bytes, of which tBIR names the second.
-fn captures() {
+// Two BAR captures with the same bytes, of which tBIR names the second.
+fn main() {
     let mut config = [0u8; 4096];
-    let mut low = [0u8; 43152];
-    let mut high = [0u8; 43152];
-    sheet::set_config(&mut config);
-    fill(&mut low);
-    fill(&mut high);
+    let mut low = [0u8; 6480];
+    let mut high = [0u8; 6480];
+    board::set_config(&mut config);
+    board::set_domains(&mut low);
+    board::set_domains(&mut high);
     lookups(&config, &low, &high);
     writes(&config, &mut low, &mut high);
-}
-
-fn main() {
-    captures();
 }

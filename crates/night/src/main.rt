@@ -1,5 +1,5 @@
 // A worked night: the calls of energy's specs/Night.antt, one line for each with what came, then the totals beside the
-// wattmeter's sum of the whole counts, which no call is handed.
+// wattmeter's sum of the whole counts, which no call is handed; and after it document 01's bench cases of a gap and of a turnover.
 use channel::calls::Answered;
 use channel::calls::Call;
 use channel::calls::Opening;
@@ -115,12 +115,27 @@ fn wattmeter() -> u64 {
     first + second + third + last
 }
 
+// Gap limit 1,000 and last tick 5,000: 6,001 and 5,000 are refused, 6,000 is not. ENERGY is bits 31:0; TIME, bits 63:32, is not counted.
+fn bench(channels: [Channel; 64]) -> [Channel; 64] {
+    let c1 = run(channels, 8, opening(14, 1000, 5000, 0x0000_0001_FFFF_FFF0));
+    let c2 = run(c1, 8, reading(6001, 0x0000_0002_0000_0010));
+    let c3 = run(c2, 8, reading(5000, 0x0000_0002_0000_0010));
+    let c4 = run(c3, 8, reading(6000, 0x0000_0002_0000_0010));
+    run(c4, 8, Call::Ask)
+}
+
+fn hall_total(channels: [Channel; 64], unit: u8) {
+    say(b"hall total of unit ", unit as u64);
+    say_answer(hall::hall_total(channels, unit));
+}
+
 fn main() {
     let c12 = night();
     let c13 = run(c12, 3, Call::Ask);
     say(b"wattmeter ", 3);
     say_answer(Answered::Total(wattmeter()));
     let c14 = run(c13, 5, Call::Ask);
-    say(b"hall total of unit ", 14);
-    say_answer(hall::hall_total(c14, 14));
+    hall_total(c14, 14);
+    hall_total(bench(c14), 14);
+    hall_total(c14, 32);
 }
