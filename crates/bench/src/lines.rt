@@ -1,6 +1,5 @@
-// How a line is written: words, numbers, and what each answer says.
+// How a line is written: words, numbers, and what came of a write.
 use libc::STDOUT_FILENO;
-use places::found::Value;
 
 pub(crate) fn text(words: &[u8]) {
     io::write_all(STDOUT_FILENO, words);
@@ -32,24 +31,4 @@ pub(crate) fn outcome(n: u8) {
         return;
     }
     refused(n);
-}
-
-pub(crate) fn value(came: Value) {
-    match came {
-        Value::Is(x) => {
-            number(b": ", x);
-            end();
-        }
-        Value::Refused(n) => refused(n),
-    }
-}
-
-pub(crate) fn content(came: Value) {
-    match came {
-        Value::Is(x) => {
-            hex(b": 0x", x);
-            end();
-        }
-        Value::Refused(n) => refused(n),
-    }
 }

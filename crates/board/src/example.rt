@@ -3,15 +3,12 @@ use crate::lines::content;
 use crate::lines::end;
 use crate::lines::hex;
 use crate::lines::number;
-use crate::lines::outcome;
 use crate::lines::refused;
-use crate::lines::text;
 use crate::lines::value;
 use domains::headers::Known;
 use rapl::lookups;
 use words::bytes::store_u16;
 use words::bytes::store_u64;
-use words::bytes::u64_at;
 
 // Vendor word, and at 0x100 the VSEC structure: 1 entry of 2 words, tBIR 1, table at 2,000.
 pub(crate) fn set_config(config: &mut [u8]) {
@@ -79,61 +76,4 @@ pub(crate) fn chains<'a>(config: &[u8], low: &'a [u8], high: &'a [u8]) {
     chain(config, low, high, 0);
     chain(config, low, high, 1);
     chain(config, low, high, 2);
-}
-
-fn field_name(which: u32) {
-    match which {
-        0 => text(b", PWR_LIM "),
-        1 => text(b", TIME_WINDOW "),
-        2 => text(b", PWR_LIM_EN "),
-        _ => text(b", LOCK "),
-    }
-}
-
-fn write(
-    config: &[u8],
-    low: &mut [u8],
-    high: &mut [u8],
-    n: u64,
-    limit: u32,
-    which: u32,
-    value: u64,
-) {
-    number(b"domain ", n);
-    number(b", limit ", limit as u64);
-    field_name(which);
-    number(b"", value);
-    outcome(writes::write::write(config, 0, low, 1, high, 0, n, limit, which, value));
-}
-
-// What both captures hold where the socket's first limit stands.
-fn held(low: &[u8], high: &[u8]) {
-    hex(b"  at 6112 BAR 0 holds 0x", u64_at(low, 6112));
-    hex(b", BAR 1 holds 0x", u64_at(high, 6112));
-    end();
-}
-
-// Document 01's three writes: PWR_LIM, TIME_WINDOW and PWR_LIM_EN of the socket's first limit.
-pub(crate) fn limits(config: &[u8], low: &mut [u8], high: &mut [u8]) {
-    write(config, low, high, 0, 1, 0, 1000);
-    write(config, low, high, 0, 1, 1, 0x6E);
-    write(config, low, high, 0, 1, 2, 1);
-    held(low, high);
-}
-
-// A number too wide, the window of a package's second limit, a second limit of the memory, a limit 3.
-pub(crate) fn refusals(config: &[u8], low: &mut [u8], high: &mut [u8]) {
-    write(config, low, high, 0, 1, 0, 262144);
-    write(config, low, high, 0, 2, 1, 0x6E);
-    write(config, low, high, 1, 2, 0, 1000);
-    write(config, low, high, 0, 3, 0, 1000);
-    held(low, high);
-}
-
-// Once LOCK is 1 no field can be written, LOCK neither.
-pub(crate) fn locked(config: &[u8], low: &mut [u8], high: &mut [u8]) {
-    write(config, low, high, 0, 1, 3, 1);
-    write(config, low, high, 0, 1, 0, 2000);
-    write(config, low, high, 0, 1, 3, 0);
-    held(low, high);
 }

@@ -1,0 +1,80 @@
+// Writes of a limit's fields, in a capture with one feature and two domains, a package and a memory.
+use crate::lines::end;
+use crate::lines::hex;
+use crate::lines::number;
+use crate::lines::outcome;
+use crate::lines::text;
+use words::bytes::store_u16;
+use words::bytes::store_u64;
+use words::bytes::u64_at;
+
+// Vendor word, and at 0x100 the VSEC structure: 1 entry of 2 words, tBIR 1, table at 2,000.
+pub(crate) fn set_config(config: &mut [u8]) {
+    store_u16(config, 0, 0x8086);
+    store_u64(config, 0x100, 0x0101_0042_0001_000B);
+    store_u64(config, 0x108, 0x0000_07D1_0201_0000);
+}
+
+// The entry: one instance of 64 words, 4 KiB from the table; the headers of the two domains, with the registers that 001's example lists.
+pub(crate) fn set_domains(bar: &mut [u8]) {
+    store_u64(bar, 2000, 0x0001_0004_0040_0100);
+    store_u64(bar, 6096, 0x0000_03AF_0001_0201);
+    store_u64(bar, 6224, 0x0000_0387_0001_0401);
+}
+
+fn field_name(which: u32) {
+    match which {
+        0 => text(b", PWR_LIM "),
+        1 => text(b", TIME_WINDOW "),
+        2 => text(b", PWR_LIM_EN "),
+        _ => text(b", LOCK "),
+    }
+}
+
+fn write(
+    config: &[u8],
+    low: &mut [u8],
+    high: &mut [u8],
+    n: u64,
+    limit: u32,
+    which: u32,
+    value: u64,
+) {
+    number(b"domain ", n);
+    number(b", limit ", limit as u64);
+    field_name(which);
+    number(b"", value);
+    outcome(writes::write::write(config, 0, low, 1, high, 0, n, limit, which, value));
+}
+
+// What both captures hold where the socket's first limit stands.
+fn held(low: &[u8], high: &[u8]) {
+    hex(b"  at 6112 BAR 0 holds 0x", u64_at(low, 6112));
+    hex(b", BAR 1 holds 0x", u64_at(high, 6112));
+    end();
+}
+
+// Document 01's three writes: PWR_LIM, TIME_WINDOW and PWR_LIM_EN of the socket's first limit.
+pub(crate) fn limits(config: &[u8], low: &mut [u8], high: &mut [u8]) {
+    write(config, low, high, 0, 1, 0, 1000);
+    write(config, low, high, 0, 1, 1, 0x6E);
+    write(config, low, high, 0, 1, 2, 1);
+    held(low, high);
+}
+
+// A number too wide, the window of a package's second limit, a second limit of the memory, a limit 3.
+pub(crate) fn refusals(config: &[u8], low: &mut [u8], high: &mut [u8]) {
+    write(config, low, high, 0, 1, 0, 262144);
+    write(config, low, high, 0, 2, 1, 0x6E);
+    write(config, low, high, 1, 2, 0, 1000);
+    write(config, low, high, 0, 3, 0, 1000);
+    held(low, high);
+}
+
+// Once LOCK is 1 no field can be written, LOCK neither.
+pub(crate) fn locked(config: &[u8], low: &mut [u8], high: &mut [u8]) {
+    write(config, low, high, 0, 1, 3, 1);
+    write(config, low, high, 0, 1, 0, 2000);
+    write(config, low, high, 0, 1, 3, 0);
+    held(low, high);
+}
