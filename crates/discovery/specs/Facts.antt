@@ -54,7 +54,7 @@ pub data Breaks (c : Capture) : ℕ → Type 0 where
   walk : {n : ℕ} → Shaped c → Vendor c → Ends (c .config) (refused n) → Breaks c n
   bir : {a : ℕ} → Shaped c → Vendor c → Ends (c .config) (gives (a ∷ [])) → (Named c a → ⊥) → Breaks c 6
   table : {a : ℕ} → Shaped c → Vendor c → Ends (c .config) (gives (a ∷ [])) → Named c a → (Fits c a → ⊥) → Breaks c 7
-  -- the first faulty entry in table order, by its own smallest number (EntryFaults of the crate entries says when it has which)
+  -- the first faulty entry in table order, by its own smallest number (EntryFaults of the crate banks says when it has which)
   entry : {a k m : ℕ} → Shaped c → Vendor c → Ends (c .config) (gives (a ∷ [])) → Named c a → Fits c a → k < vsecAt (c .config) a .entries → m ≢ 0
       → faultAt (barAt c a) (vsecAt (c .config) a .offset) (vsecAt (c .config) a .entries) k ≡ m
       → ((i : ℕ) → i < k → faultAt (barAt c a) (vsecAt (c .config) a .offset) (vsecAt (c .config) a .entries) i ≡ 0) → Breaks c m

@@ -1,4 +1,4 @@
--- The theorems of Facts.antt on the lookup of a domain, its registers, and both over a capture. Assumes nothing.
+-- The theorems of Facts.antt on headers, the lookup of a domain, and its registers. Assumes nothing.
 use Prim.Native.Nat.{ℕ, _≤_, _<_}
 use mathlib.Core.Path.{_≡_, refl, ap, _∙_}
 use mathlib.Core.Bool.{true, false, not}

@@ -1,4 +1,4 @@
--- What each case of the code's enum says in document 01's words. (Contents and lengths come in `Value` of features, which has `valued`.)
+-- What each case of the code's enum says in document 01's words. (Contents and lengths come in `Value` of places, which has `valued`.)
 -- Assumes nothing.
 use Rattle.words.specs.Answers.{Answer, refused, gives}
 use Rattle.domains.specs.Domains.{values}

@@ -1,4 +1,4 @@
--- `entries::faults::bank_in` meets its contract: an entry that is read has small numbers. Assumes nothing.
+-- `banks::faults::bank_in` meets its contract: an entry that is read has small numbers. Assumes nothing.
 use mathlib.Core.Path.{sym, subst}
 use Rattle.banks.specs.Faults.{Small, bankIn}
 use Rattle.banks.proofs.FaultLaws.{entry-small}

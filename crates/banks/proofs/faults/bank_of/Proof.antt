@@ -1,4 +1,4 @@
--- `entries::faults::bank_of` meets its contract: all sums stay far below 2 to the 64. Assumes nothing.
+-- `banks::faults::bank_of` meets its contract: all sums stay far below 2 to the 64. Assumes nothing.
 use mathlib.Core.Path.{refl}
 use native.Mathlib.Omega.{arith}
 use Rattle.banks.specs.Faults.{bankOf}

@@ -1,4 +1,4 @@
--- `entries::faults::clash` meets its contract: at each return the tests on the way decide. Assumes nothing.
+-- `banks::faults::clash` meets its contract: at each return the tests on the way decide. Assumes nothing.
 use mathlib.Core.Path.{_≡_, refl, sym, _∙_}
 use mathlib.Core.Bool.{Bool, true, false, not, _&&_}
 use borrow.Author.Tests.{eq-eqb, ne-eqb}

@@ -1,4 +1,4 @@
--- `entries::faults::earlier` meets its contract. The invariant: no earlier entry so far has the identifier, and `found` is 11 exactly if
+-- `banks::faults::earlier` meets its contract. The invariant: no earlier entry so far has the identifier, and `found` is 11 exactly if
 -- some bank so far shares a byte. The measure is what is left of k. Assumes nothing.
 use Prim.Native.Nat.{_-_, _≤_}
 use mathlib.Core.Path.{_≡_, sym, ap, _∙_}

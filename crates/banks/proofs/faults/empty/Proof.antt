@@ -1,4 +1,4 @@
--- `entries::faults::empty` meets its contract: one test after the other. Assumes nothing.
+-- `banks::faults::empty` meets its contract: one test after the other. Assumes nothing.
 use mathlib.Core.Path.{sym}
 use borrow.Author.Tests.{eq-eqb, ne-eqb}
 use Rattle.words.proofs.TestLaws.{or-skip, or-take}

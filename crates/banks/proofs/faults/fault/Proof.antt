@@ -1,4 +1,4 @@
--- `entries::faults::fault` meets its contract: at each return the tests on the way decide. Assumes nothing.
+-- `banks::faults::fault` meets its contract: at each return the tests on the way decide. Assumes nothing.
 use mathlib.Core.Path.{_≡_, sym, _∙_}
 use mathlib.Core.Bool.{false}
 use mathlib.Core.Logic.{_≢_}

@@ -1,4 +1,4 @@
--- `entries::faults::faults` meets its contract. The invariant: no entry so far has a fault. The measure is the entries left. Assumes nothing.
+-- `banks::faults::faults` meets its contract. The invariant: no entry so far has a fault. The measure is the entries left. Assumes nothing.
 use Prim.Native.Nat.{_-_, _≤_}
 use mathlib.Core.Path.{_≡_, sym, ap, _∙_}
 use native.Mathlib.Omega.{arith}

@@ -1,4 +1,4 @@
--- `entries::faults::shared` meets its contract. Assumes nothing.
+-- `banks::faults::shared` meets its contract. Assumes nothing.
 use borrow.Author.Tests.{lt-ltb, le-ltb}
 use Rattle.banks.proofs.faults.shared.Statement.{statement}
 use Rattle.banks.proofs.faults.shared.Tie as tie

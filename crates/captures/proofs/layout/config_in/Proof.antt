@@ -1,4 +1,4 @@
--- `listing::layout::config_in` meets its contract: the empty part, or the part that the layout says, which is there. Assumes nothing.
+-- `captures::layout::config_in` meets its contract: the empty part, or the part that the layout says, which is there. Assumes nothing.
 use mathlib.Core.Path.{sym, ap, _∙_}
 use native.Mathlib.Omega.{arith}
 use Rattle.captures.specs.Layout.{configIn}

@@ -1,4 +1,4 @@
--- `listing::layout::layout_of` meets its contract: at each return the tests on the way decide whether the input is readable.
+-- `captures::layout::layout_of` meets its contract: at each return the tests on the way decide whether the input is readable.
 -- Assumes nothing.
 use Prim.Native.Nat.{ℕ, _+_}
 use mathlib.Core.Path.{_≡_, sym, ap, ap₂, _∙_}

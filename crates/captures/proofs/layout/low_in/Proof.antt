@@ -1,4 +1,4 @@
--- `listing::layout::low_in` meets its contract: the empty part, or the part that the layout says, which is there. Assumes nothing.
+-- `captures::layout::low_in` meets its contract: the empty part, or the part that the layout says, which is there. Assumes nothing.
 use Prim.Native.Nat.{ℕ, _-_}
 use mathlib.Core.Path.{_≡_, sym, ap, _∙_}
 use native.Mathlib.Omega.{arith}

@@ -1,4 +1,4 @@
--- `energy::channels::count_in` meets its contract: a field of 32 bits fits 32 bits. Assumes nothing.
+-- `channel::record::count_in` meets its contract: a field of 32 bits fits 32 bits. Assumes nothing.
 use borrow.Author.Needs.{needs}
 use native.Mathlib.Omega.{arith}
 use Rattle.fields.proofs.FieldLaws.{field-lt}

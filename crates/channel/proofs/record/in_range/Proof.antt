@@ -1,4 +1,4 @@
--- `energy::channels::in_range` meets its contract: each return is one test. Assumes nothing.
+-- `channel::record::in_range` meets its contract: each return is one test. Assumes nothing.
 use mathlib.Core.Path.{sym}
 use Rattle.channel.proofs.ChannelLaws.{range-unit, range-none, range-long}
 use Rattle.channel.proofs.record.in_range.Statement.{statement}

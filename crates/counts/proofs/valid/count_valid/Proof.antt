@@ -1,4 +1,4 @@
--- `features::valid::count_valid` meets its contract. The invariant: the total is the count of the instances before `first`. The measure is
+-- `counts::valid::count_valid` meets its contract. The invariant: the total is the count of the instances before `first`. The measure is
 -- the instances left. Assumes nothing.
 use Prim.Native.Nat.{_+_, _-_, _≤_, _<_}
 use mathlib.Core.Path.{_≡_, refl, ap, _∙_}

@@ -1,4 +1,4 @@
--- `features::valid::mask` meets its contract. The invariant: the bits so far are the mask of the instances so far. The measure is what is
+-- `counts::valid::mask` meets its contract. The invariant: the bits so far are the mask of the instances so far. The measure is what is
 -- left. Assumes nothing.
 use Prim.Native.Nat.{ℕ, _+_, _*_, _-_, _^_, _%_, _≤_}
 use mathlib.Core.Path.{_≡_, refl, sym, ap, _∙_}

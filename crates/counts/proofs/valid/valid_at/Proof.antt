@@ -1,4 +1,4 @@
--- `features::valid::valid_at` meets its contract. Assumes nothing.
+-- `counts::valid::valid_at` meets its contract. Assumes nothing.
 use mathlib.Core.Path.{ap}
 use mathlib.Core.Bool.{not}
 use Prim.Native.Nat.{ℕ, _-_, _^_}

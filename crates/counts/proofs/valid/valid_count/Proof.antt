@@ -1,4 +1,4 @@
--- `features::valid::valid_count` meets its contract: the feature's refusal, or the count over its bank. Assumes nothing.
+-- `counts::valid::valid_count` meets its contract: the feature's refusal, or the count over its bank. Assumes nothing.
 use Prim.Native.Nat.{ℕ}
 use mathlib.Core.Path.{sym, ap, ap₂, _∙_}
 use mathlib.Core.List.{List, [], _∷_}

@@ -1,4 +1,4 @@
--- `features::valid::valid_in` meets its contract: the bank of an entry leaves room. Assumes nothing.
+-- `counts::valid::valid_in` meets its contract: the bank of an entry leaves room. Assumes nothing.
 use Prim.Native.Nat.{_*_}
 use mathlib.Core.Path.{ap, _∙_, sym, subst}
 use native.Mathlib.Omega.{arith}

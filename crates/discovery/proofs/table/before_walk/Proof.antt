@@ -1,4 +1,4 @@
--- `features::discovery::before_walk` meets its contract: at each return the tests on the way decide. Assumes nothing.
+-- `discovery::table::before_walk` meets its contract: at each return the tests on the way decide. Assumes nothing.
 use mathlib.Core.Path.{sym, _∙_}
 use Rattle.discovery.proofs.DiscoveryLaws.{early-one, early-two, early-none}
 use borrow.Author.Needs.{needs}

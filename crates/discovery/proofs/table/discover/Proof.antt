@@ -1,4 +1,4 @@
--- `features::discovery::discover` meets its contract: each stage refuses, or hands on to the next. Assumes nothing.
+-- `discovery::table::discover` meets its contract: each stage refuses, or hands on to the next. Assumes nothing.
 use mathlib.Core.Path.{sym, ap, _∙_, subst}
 use Rattle.words.specs.Answers.{refused, numberIn}
 use Rattle.vsec.specs.Facts.{Narrow}

@@ -1,4 +1,4 @@
--- `features::discovery::in_structure` meets its contract: 6, or the table in the BAR capture that tBIR names. Assumes nothing.
+-- `discovery::table::in_structure` meets its contract: 6, or the table in the BAR capture that tBIR names. Assumes nothing.
 use Prim.Native.Nat.{ℕ}
 use mathlib.Core.Path.{sym, ap, _∙_}
 use mathlib.Core.List.{List}

@@ -1,4 +1,4 @@
--- `features::discovery::misshapen` meets its contract: one test after the other. Assumes nothing.
+-- `discovery::table::misshapen` meets its contract: one test after the other. Assumes nothing.
 use mathlib.Core.Path.{sym, _∙_}
 use borrow.Author.Tests.{lt-ltb, le-ltb}
 use Rattle.words.proofs.TestLaws.{as-must, not-as-must, or-skip, or-take}

@@ -1,4 +1,4 @@
--- `features::discovery::table_in` meets its contract: at each return the tests on the way decide. Assumes nothing.
+-- `discovery::table::table_in` meets its contract: at each return the tests on the way decide. Assumes nothing.
 use Prim.Native.Nat.{_+_, _*_, _≤_}
 use mathlib.Core.Path.{_≡_, sym, ap, _∙_}
 use mathlib.Core.Logic.{_⊎_, inl, inr, ⊎-elim}

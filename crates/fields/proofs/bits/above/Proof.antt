@@ -1,4 +1,4 @@
--- `words::fields::above` meets its contract. Assumes nothing.
+-- `fields::bits::above` meets its contract. Assumes nothing.
 use mathlib.Core.Path.{sym}
 use Rattle.fields.proofs.Shifts.{shr-out}
 use borrow.Author.Needs.{needs}

@@ -1,4 +1,4 @@
--- `words::fields::field` meets its contract. Assumes nothing.
+-- `fields::bits::field` meets its contract. Assumes nothing.
 use Rattle.fields.specs.Fields.{field}
 use borrow.Author.Needs.{needs}
 use Rattle.fields.proofs.bits.field.Statement.{statement}

@@ -1,4 +1,4 @@
--- `words::fields::low` meets its contract. Assumes nothing.
+-- `fields::bits::low` meets its contract. Assumes nothing.
 use mathlib.Core.Path.{sym}
 use lib.Pow.{pow-pos}
 use Rattle.fields.proofs.Shifts.{mod-out, one-shl}

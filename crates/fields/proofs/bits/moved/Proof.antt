@@ -1,4 +1,4 @@
--- `words::fields::moved` meets its contract. Assumes nothing.
+-- `fields::bits::moved` meets its contract. Assumes nothing.
 use mathlib.Core.Path.{sym}
 use Rattle.fields.proofs.Shifts.{shl-out}
 use borrow.Author.Needs.{needs}

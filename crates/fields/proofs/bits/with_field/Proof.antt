@@ -1,4 +1,4 @@
--- `words::fields::with_field` meets its contract: in 64 bits, what the field held can be taken away, and neither part is cut. Assumes nothing.
+-- `fields::bits::with_field` meets its contract: in 64 bits, what the field held can be taken away, and neither part is cut. Assumes nothing.
 use mathlib.Core.Path.{_≡_, ap, _∙_}
 use Prim.Native.Nat.{ℕ, _+_, _-_, _*_, _%_, _^_}
 use native.Mathlib.Omega.{arith}

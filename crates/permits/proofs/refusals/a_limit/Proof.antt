@@ -1,4 +1,4 @@
--- `limits::fields::a_limit` meets its contract: 1, or 2. Assumes nothing.
+-- `permits::refusals::a_limit` meets its contract: 1, or 2. Assumes nothing.
 use mathlib.Core.Path.{sym}
 use borrow.Author.Tests.{eq-eqb, ne-eqb}
 use Rattle.words.proofs.TestLaws.{or-skip, or-take}

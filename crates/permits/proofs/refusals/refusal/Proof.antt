@@ -1,4 +1,4 @@
--- `limits::fields::refusal` meets its contract: 27 for a number that is no limit's, then 26, 27, 17, 18. Assumes nothing.
+-- `permits::refusals::refusal` meets its contract: 27 for a number that is no limit's, then 26, 27, 17, 18. Assumes nothing.
 use Prim.Native.Nat.{_+_, _^_}
 use mathlib.Core.Path.{_≡_, sym, ap, _∙_}
 use mathlib.Core.Bool.{true, false}

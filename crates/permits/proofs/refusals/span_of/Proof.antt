@@ -1,4 +1,4 @@
--- `limits::fields::span_of` meets its contract: the four fields one by one, and what is past them. Assumes nothing.
+-- `permits::refusals::span_of` meets its contract: the four fields one by one, and what is past them. Assumes nothing.
 use mathlib.Core.Path.{sym, ap}
 use native.Mathlib.Omega.{arith}
 use Rattle.permits.specs.Permits.{placeOf, widthOf, spanOf}

@@ -1,4 +1,4 @@
--- `limits::fields::unwritable` meets its contract: test by test. Assumes nothing.
+-- `permits::refusals::unwritable` meets its contract: test by test. Assumes nothing.
 use mathlib.Core.Path.{sym, _∙_}
 use borrow.Author.Tests.{lt-ltb, le-ltb, eq-eqb, ne-eqb}
 use lib.Dec.{eqb}

@@ -1,4 +1,4 @@
--- `features::places::bar_of` meets its contract. Assumes nothing.
+-- `places::found::bar_of` meets its contract. Assumes nothing.
 use borrow.Author.Tests.{eq-eqb, ne-eqb}
 use Rattle.places.proofs.found.bar_of.Statement.{statement}
 use Rattle.places.proofs.found.bar_of.Tie as tie

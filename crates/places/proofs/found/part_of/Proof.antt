@@ -1,4 +1,4 @@
--- `features::places::part_of` meets its contract: the piece of the BAR capture with the number. Assumes nothing.
+-- `places::found::part_of` meets its contract: the piece of the BAR capture with the number. Assumes nothing.
 use borrow.Author.Needs.{needs}
 use Rattle.places.proofs.found.part_of.Statement.{statement}
 use Rattle.places.proofs.found.part_of.Tie as tie

@@ -1,4 +1,4 @@
--- `features::places::piece` meets its contract: the empty part where the bytes pass the end, else the bytes. Assumes nothing.
+-- `places::found::piece` meets its contract: the empty part where the bytes pass the end, else the bytes. Assumes nothing.
 use Prim.Native.Nat.{ℕ, _+_, _-_}
 use mathlib.Core.Path.{_≡_, sym, ap, _∙_}
 use native.Mathlib.Omega.{arith}

@@ -1,4 +1,4 @@
--- `domains::chains::climb` meets its contract: one step a turn, steps falling from 255. Assumes nothing.
+-- `rapl::chains::climb` meets its contract: one step a turn, steps falling from 255. Assumes nothing.
 use native.Mathlib.Omega.{arith}
 use mathlib.Core.Path.{_≡_, sym, ap, _∙_}
 use Rattle.words.specs.Answers.{gives}

@@ -1,4 +1,4 @@
--- `domains::chains::chain_in` meets its contract: the domain's refusal, or the climb from it. Assumes nothing.
+-- `rapl::chains::chain_in` meets its contract: the domain's refusal, or the climb from it. Assumes nothing.
 use mathlib.Core.Path.{_≡_, sym, ap, _∙_}
 use Rattle.words.specs.Answers.{refused, numberIn}
 use Rattle.places.specs.Told.{valued}

@@ -1,4 +1,4 @@
--- `domains::lookups::chain` meets its contract: the instance's refusal, or what is said of its bytes. Assumes nothing.
+-- `rapl::lookups::chain` meets its contract: the instance's refusal, or what is said of its bytes. Assumes nothing.
 use mathlib.Core.Path.{_≡_, sym, ap, _∙_}
 use mathlib.Core.List.{List}
 use Prim.Native.Nat.{ℕ}

@@ -1,4 +1,4 @@
--- `features::registers::outside` meets its contract: at each return the tests on the way decide. Assumes nothing.
+-- `registers::lookup::outside` meets its contract: at each return the tests on the way decide. Assumes nothing.
 use mathlib.Core.Path.{sym}
 use native.Mathlib.Omega.{arith}
 use Rattle.registers.proofs.RegisterLaws.{outside-odd, outside-past, outside-none}

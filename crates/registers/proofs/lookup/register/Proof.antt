@@ -1,4 +1,4 @@
--- `features::registers::register` meets its contract: the refusal of its place, or the eight bytes there. Assumes nothing.
+-- `registers::lookup::register` meets its contract: the refusal of its place, or the eight bytes there. Assumes nothing.
 use Prim.Native.Nat.{ℕ}
 use mathlib.Core.Path.{sym, ap, ap₂, _∙_}
 use mathlib.Core.List.{List, [], _∷_}

@@ -1,4 +1,4 @@
--- `features::registers::register_place` meets its contract: the instance's refusal, 14, or the place. Assumes nothing.
+-- `registers::lookup::register_place` meets its contract: the instance's refusal, 14, or the place. Assumes nothing.
 use Prim.Native.Nat.{ℕ, _+_}
 use mathlib.Core.Path.{_≡_, sym, ap, ap₂, _∙_}
 use mathlib.Core.List.{[], _∷_}

@@ -1,4 +1,4 @@
--- `vsec::walk::follow` meets its contract: at each return the tests on the way decide where it leads. Assumes nothing.
+-- `walk::capabilities::follow` meets its contract: at each return the tests on the way decide where it leads. Assumes nothing.
 use mathlib.Core.Path.{sym}
 use Rattle.walk.proofs.WalkLaws.{followed-end, followed-low, followed-odd, followed-on}
 use Rattle.walk.proofs.capabilities.follow.Statement.{statement}

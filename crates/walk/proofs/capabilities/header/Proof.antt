@@ -1,4 +1,4 @@
--- `vsec::walk::header` meets its contract: the word's fields are the header's, and the tests on the way decide. Assumes nothing.
+-- `walk::capabilities::header` meets its contract: the word's fields are the header's, and the tests on the way decide. Assumes nothing.
 use mathlib.Core.Path.{_≡_, sym, ap, _∙_}
 use mathlib.Core.Logic.{⊎-elim}
 use native.Mathlib.Omega.{arith}

@@ -1,4 +1,4 @@
--- `vsec::walk::taken` meets its contract: at each return the tests on the way decide. Assumes nothing.
+-- `walk::capabilities::taken` meets its contract: at each return the tests on the way decide. Assumes nothing.
 use mathlib.Core.Path.{sym, ap, _∙_}
 use Rattle.vsec.specs.Structure.{fixedWrong}
 use Rattle.walk.proofs.WalkLaws.{taken-high, taken-wrong, taken-sound}

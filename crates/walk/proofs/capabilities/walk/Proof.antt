@@ -1,4 +1,4 @@
--- `vsec::walk::walk` meets its contract. The invariant: the walk from here, with the headers left, gives the answer. The measure is the
+-- `walk::capabilities::walk` meets its contract. The invariant: the walk from here, with the headers left, gives the answer. The measure is the
 -- headers left. Assumes nothing.
 use borrow.Author.Needs.{needs}
 use Prim.Native.Nat.{_<_}

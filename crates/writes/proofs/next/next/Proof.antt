@@ -1,4 +1,4 @@
--- `limits::next::next` meets its contract: the instance's refusal, or what is said of its bytes. Assumes nothing.
+-- `writes::next::next` meets its contract: the instance's refusal, or what is said of its bytes. Assumes nothing.
 use mathlib.Core.Path.{sym, ap, _∙_}
 use mathlib.Core.List.{List}
 use Prim.Native.Nat.{ℕ}

@@ -1,4 +1,4 @@
--- `limits::next::next_in` meets its contract: the domain's refusal, the write's, or the register with the field replaced. Assumes nothing.
+-- `writes::next::next_in` meets its contract: the domain's refusal, the write's, or the register with the field replaced. Assumes nothing.
 use Prim.Native.Nat.{_≤_}
 use mathlib.Core.Path.{_≡_, sym, ap, _∙_}
 use native.Mathlib.Omega.{arith}

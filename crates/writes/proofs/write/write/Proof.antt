@@ -1,4 +1,4 @@
--- `limits::write::write` meets its contract: refused, both captures are as they were; permitted, the register's bytes are stored in one.
+-- `writes::write::write` meets its contract: refused, both captures are as they were; permitted, the register's bytes are stored in one.
 -- Assumes nothing.
 use Prim.Native.Nat.{ℕ, _^_, _≤_, _<_}
 use mathlib.Core.Path.{_≡_, sym, ap, _∙_}

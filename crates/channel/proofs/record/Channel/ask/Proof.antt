@@ -1,4 +1,4 @@
--- `energy::channels::Channel::ask` meets its contract: open or not is its one test. Assumes nothing.
+-- `channel::record::Channel::ask` meets its contract: open or not is its one test. Assumes nothing.
 use mathlib.Core.Path.{refl}
 use borrow.Author.Needs.{needs}
 use Rattle.channel.specs.Channels.{values, taken}

@@ -1,4 +1,4 @@
--- `energy::channels::Channel::close` meets its contract: open or not is its one test. Assumes nothing.
+-- `channel::record::Channel::close` meets its contract: open or not is its one test. Assumes nothing.
 use mathlib.Core.Path.{refl, _∙_}
 use borrow.Author.Needs.{needs}
 use Rattle.channel.specs.Channels.{values, taken}

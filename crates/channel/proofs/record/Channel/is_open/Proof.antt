@@ -1,4 +1,4 @@
--- `energy::channels::Channel::is_open` meets its contract: each return is one test. Assumes nothing.
+-- `channel::record::Channel::is_open` meets its contract: each return is one test. Assumes nothing.
 use mathlib.Core.Path.{sym}
 use borrow.Author.Needs.{needs}
 use Rattle.channel.proofs.ChannelLaws.{flag, open-live, open-range, open-total}

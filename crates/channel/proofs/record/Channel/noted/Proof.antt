@@ -1,4 +1,4 @@
--- `energy::channels::Channel::noted` meets its contract: the count is what `count_in` gives. Assumes nothing.
+-- `channel::record::Channel::noted` meets its contract: the count is what `count_in` gives. Assumes nothing.
 use borrow.Author.Needs.{needs}
 use Rattle.channel.proofs.record.Channel.noted.Statement.{statement}
 use Rattle.channel.proofs.record.Channel.noted.Tie as tie

@@ -1,4 +1,4 @@
--- `energy::channels::Channel::read` meets its contract: each return is one law of the refusals. Assumes nothing.
+-- `channel::record::Channel::read` meets its contract: each return is one law of the refusals. Assumes nothing.
 use mathlib.Core.Path.{_≡_, refl}
 use mathlib.Core.Bool.{true}
 use borrow.Author.Needs.{needs}

@@ -1,4 +1,4 @@
--- `energy::channels::Channel::share` meets its contract: each return is one law of `share`. Assumes nothing.
+-- `channel::record::Channel::share` meets its contract: each return is one law of `share`. Assumes nothing.
 use mathlib.Core.Path.{sym}
 use borrow.Author.Needs.{needs}
 use Rattle.channel.proofs.ChannelLaws.{flag, share-own, share-other, share-closed}

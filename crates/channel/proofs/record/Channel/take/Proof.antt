@@ -1,4 +1,4 @@
--- `energy::channels::Channel::take` meets its contract: each arm is the call's own method. Assumes nothing.
+-- `channel::record::Channel::take` meets its contract: each arm is the call's own method. Assumes nothing.
 use borrow.Author.Needs.{needs}
 use Rattle.channel.proofs.record.Channel.take.Statement.{statement}
 use Rattle.channel.proofs.record.Channel.take.Tie as tie
