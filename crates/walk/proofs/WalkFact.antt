@@ -112,7 +112,7 @@ walk-ends : (s : List ℕ) → Ends s (walkOf s)
 walk-ends s = by (begun-or-empty s)
   where
     by : Begun s ⊎ ((numberAt s 0x100 4 ≡ 0) ⊎ (numberAt s 0x100 4 ≡ 0xFFFFFFFF)) → Ends s (walkOf s)
-    by (inl b) = subst (Ends s) (sym (walk-begins s (b .0) (b .1))) (ends-from s b 960 0 0x100 here refl)
+    by (inl b) = subst (Ends s) (walk-begins s refl (b .0) (b .1)) (ends-from s b 960 0 0x100 here refl)
     by (inr (inl z)) = subst (Ends s) (sym (walk-zeros s z)) (empty (λ b. b .0 z))
     by (inr (inr o)) = subst (Ends s) (sym (walk-ones s o)) (empty (λ b. b .1 o))
 
@@ -132,13 +132,13 @@ module _ (s : List ℕ) where
   unfolding walkFrom
   stops-at {n} {a} b r l h =
       let e : 960 - n ≡ suc (960 - suc n) = omega arith in
-      walk-begins s (b .0) (b .1) ∙ comes-by r (omega arith) ∙ ap (λ (k : ℕ). walkFrom s k a) e ∙ ap (λ (h : Header). onward h (walkFrom s (960 - suc n))) h
+      sym (walk-begins s refl (b .0) (b .1)) ∙ comes-by r (omega arith) ∙ ap (λ (k : ℕ). walkFrom s k a) e ∙ ap (λ (h : Header). onward h (walkFrom s (960 - suc n))) h
 
   ends-walk : (w : Answer) → Ends s w → walkOf s ≡ w
   ends-walk _ (empty h) = ⊎-elim (λ b. absurd (h b)) (λ q. ⊎-elim (walk-zeros s) (walk-ones s) q) (begun-or-empty s)
   ends-walk _ (ended b r l p z) = stops-at b r l (header-end s _ p z)
   ends-walk _ (malformed b r l p h q) = stops-at b r l (header-malformed s _ p h q)
-  ends-walk _ (endless b r) = walk-begins s (b .0) (b .1) ∙ comes-by r (omega arith) ∙ walk-out s _ _ (omega arith)
+  ends-walk _ (endless b r) = sym (walk-begins s refl (b .0) (b .1)) ∙ comes-by r (omega arith) ∙ walk-out s _ _ (omega arith)
   ends-walk _ (cut b r l i h) = stops-at b r l (header-cut s _ i h)
   ends-walk _ (over b r l t h) = stops-at b r l (header-tpmi s _ (t .0) (t .1) (t .2) ∙ ap stops (taken-high s _ h))
   ends-walk _ (wrong b r l t h f) = stops-at b r l (header-tpmi s _ (t .0) (t .1) (t .2) ∙ ap stops (taken-wrong s _ h (fixed-test s _ .1 f)))

@@ -85,9 +85,11 @@ module _ (s : List ℕ) where
   unfolding walkOf emptyList
   walk-ones h = ap (λ (b : Bool). unlessEmpty b (walkFrom s 960)) (or-second (eqb (numberAt s 0x100 4) 0) (eq-eqb _ _ h))
 
-  pub walk-begins : numberAt s 0x100 4 ≢ 0 → numberAt s 0x100 4 ≢ 0xFFFFFFFF → walkOf s ≡ walkFrom s 960 0x100
+  pub walk-begins : {left : ℕ} → left ≡ 960 → numberAt s 0x100 4 ≢ 0 → numberAt s 0x100 4 ≢ 0xFFFFFFFF → walkFrom s left 0x100 ≡ walkOf s
   unfolding walkOf emptyList
-  walk-begins z o = ap (λ (b : Bool). unlessEmpty b (walkFrom s 960)) (or-skip _ (ne-eqb _ _ z) ∙ ne-eqb _ _ o)
+  walk-begins e z o =
+      ap (λ (k : ℕ). walkFrom s k 0x100) e
+      ∙ sym (ap (λ (b : Bool). unlessEmpty b (walkFrom s 960)) (or-skip _ (ne-eqb _ _ z) ∙ ne-eqb _ _ o))
 
   -- while headers are left, one is read: the walk stops there with its answer, or goes on with one header less
   pub walk-turn : (left at : ℕ) → 0 < left → walkFrom s left at ≡ onward (headerAt s at) (walkFrom s (left - 1))

@@ -2,7 +2,7 @@
 -- headers left. Assumes nothing.
 use borrow.Author.Needs.{needs}
 use Prim.Native.Nat.{_<_}
-use mathlib.Core.Path.{_≡_, sym, subst, _∙_, ap}
+use mathlib.Core.Path.{_≡_, refl, sym, subst, _∙_, ap}
 use lib.Dec.{lit<}
 use Rattle.walk.specs.Walk.{Header, walkFrom, walkOf, Onward}
 use Rattle.walk.specs.Told.{meant}
@@ -28,7 +28,7 @@ returns-2 c = sym (walk-ones _ (sym (c .before .before .u32-at .ensures) ∙ c .
 loop-holds : tie.Need-loop-holds Inv-loop μ-loop
 loop-holds c =
     let u = c .before .before .u32-at .ensures in
-    (lit< tt, sym (walk-begins _ (λ e. c .before .if1 .left (u ∙ e)) (λ e. c .if2 .left (u ∙ e))))
+    (lit< tt, walk-begins _ refl (λ e. c .before .if1 .left (u ∙ e)) (λ e. c .if2 .left (u ∙ e)))
 
 header-requires : tie.Need-header-requires Inv-loop μ-loop
 header-requires c κs = search needs
