@@ -3,11 +3,10 @@ use Prim.Native.Nat.{ℕ, _*_}
 use mathlib.Core.Path.{_≡_, refl}
 use mathlib.Core.List.{List, [], _∷_, _++_, map}
 use lib.ListN.{replicate}
-use Rattle.words.specs.Answers.{refused, gives, first, orElse, earliest}
+use Rattle.words.specs.Answers.{refused, gives, first}
 use Rattle.words.specs.Bytes.{numberAt}
 use Rattle.fields.specs.Fields.{field}
 use Rattle.domains.specs.Domains.{headerOf, headerIn, missing, unused, wrong, unsound, domainNumber, domainOf}
-use Rattle.domains.specs.Registers.{present, registerAt, absent, contentNumber, contentOf}
 
 -- a block without FLAGS, its registers zeros: version, type, SIZE, parent
 abbrev pub block : ℕ → ℕ → ℕ → ℕ → List ℕ
@@ -35,13 +34,3 @@ one-byte-short = refl
 last-domain : map (domainOf (replicate (257 * 128) 1)) (255 ∷ 256 ∷ []) ≡ gives (1 ∷ 1 ∷ 1 ∷ 1 ∷ 0x101 ∷ 0x101 ∷ []) ∷ refused 12 ∷ []
 unfolding domainOf domainNumber first missing unused unsound wrong headerIn headerOf numberAt field
 last-domain = refl
-
--- the package's registers: 0 is its header, 1 and 9 are there without their bits, 2 by its bit; 3 and 15 have no bit
-registers : map (contentOf six 0) (0 ∷ 1 ∷ 9 ∷ 2 ∷ 3 ∷ 15 ∷ 16 ∷ []) ≡ gives (0x400010201 ∷ []) ∷ gives (0x11 ∷ []) ∷ gives (0x99 ∷ []) ∷ gives (0x22 ∷ []) ∷ refused 26 ∷ refused 26 ∷ refused 17 ∷ []
-unfolding contentOf contentNumber earliest orElse absent registerAt domainNumber first missing unused unsound wrong present headerIn headerOf numberAt field
-registers = refl
-
--- a domain's own refusal comes before 17
-own-first : map (λ n. contentOf six n 16) (0 ∷ 2 ∷ 4 ∷ 6 ∷ []) ≡ refused 17 ∷ refused 15 ∷ refused 16 ∷ refused 12 ∷ []
-unfolding contentOf contentNumber earliest orElse absent domainNumber first missing unused unsound wrong headerIn headerOf numberAt field
-own-first = refl

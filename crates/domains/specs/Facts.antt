@@ -1,16 +1,14 @@
--- What is proved of domains and their registers, for the bytes of every instance. Each is to be read without its proof; the proofs stand
+-- What is proved of domains, for the bytes of every instance. Each is to be read without its proof; the proofs stand
 -- under the same names with hyphens: proofs/DomainFact.antt, proofs/Told.antt.
 -- Assumes nothing.
 use Prim.Native.Nat.{ℕ, _+_, _*_, _^_, _≤_, _<_}
 use mathlib.Core.Path.{_≡_}
-use mathlib.Core.List.{List, [], _∷_}
-use mathlib.Core.Logic.{_⊎_, _↔_, _≢_}
+use mathlib.Core.List.{List}
+use mathlib.Core.Logic.{_↔_, _≢_}
 use lib.ListN.{length}
-use Rattle.words.specs.Answers.{refused, gives}
-use Rattle.fields.specs.Fields.{bit}
+use Rattle.words.specs.Answers.{gives}
 use Rattle.fields.specs.Tables.{fields, withFields}
 use Rattle.domains.specs.Domains.{widths, headerOf, headerIn, values, domainNumber, domainOf}
-use Rattle.domains.specs.Registers.{registerAt, contentOf}
 use Rattle.domains.specs.Told.{told}
 use Rattle.domains.specs.declared.headers.Known.{Known}
 
@@ -40,18 +38,6 @@ pub record DomainFact (s : List ℕ) (n : ℕ) : Type 0 where
   pub unsound : (domainNumber s n ≡ 16) ↔ (There s n × (headerIn s n .kind ≢ 0) × (One s n → ⊥))
   pub sound : (domainNumber s n ≡ 0) ↔ (There s n × (headerIn s n .kind ≢ 0) × One s n)
   pub answer : (domainOf s n ≡ gives (values (headerIn s n))) ↔ (domainNumber s n ≡ 0)
-
--- ---- registers
-
--- registers 0, 1 and 9, and those whose bit of FLAGS is 1
-abbrev pub Present : ℕ → ℕ → Type 0
-Present flags r = (r ≡ 0) ⊎ ((r ≡ 1) ⊎ ((r ≡ 9) ⊎ (bit r flags ≡ 1)))
-
-pub record RegisterFact (s : List ℕ) (n r : ℕ) : Type 0 where
-  pub handed-on : domainNumber s n ≢ 0 → contentOf s n r ≡ refused (domainNumber s n)
-  pub seventeen : (contentOf s n r ≡ refused 17) ↔ ((domainNumber s n ≡ 0) × (15 < r))
-  pub absent : (contentOf s n r ≡ refused 26) ↔ ((domainNumber s n ≡ 0) × (r ≤ 15) × (Present (headerIn s n .flags) r → ⊥))
-  pub content : (x : ℕ) → (contentOf s n r ≡ gives (x ∷ [])) ↔ ((domainNumber s n ≡ 0) × (r ≤ 15) × Present (headerIn s n .flags) r × (registerAt s n r ≡ x))
 
 -- Two answers that say the same are the same.
 abbrev pub ToldOnce : Known → Known → Type 0

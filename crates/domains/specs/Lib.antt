@@ -1,4 +1,3 @@
 pub mod Domains
-pub mod Registers
 pub mod Told
 pub mod Facts

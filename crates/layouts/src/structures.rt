@@ -9,11 +9,10 @@ use crate::lines::refused;
 use crate::lines::text;
 use domains::headers::Known;
 use entries::entry;
+use units::register::Written;
 use windows::codes::Window;
 use windows::codes::quarters;
 use windows::codes::window_code;
-use windows::units;
-use windows::units::Written;
 use words::bytes::store_u64;
 
 // Read, and written to a blank part.
@@ -89,13 +88,13 @@ fn written(came: Written) {
 // 001's default: 1/8 W, 1/16,384 J, 1/1,024 s.
 pub(crate) fn units() {
     hex(b"units 0x", 0xA383);
-    let u = units::read(0xA383);
+    let u = units::register::read(0xA383);
     number(b": power ", u.power);
     number(b", energy ", u.energy);
     number(b", time ", u.time);
     end();
     text(b"  written back");
-    written(units::write(u));
+    written(units::register::write(u));
 }
 
 fn duration(code: u64) {

@@ -2,11 +2,11 @@
 // written to them.
 ghost use mathlib.Core.Path.{_≡_};
 ghost use Rattle.fields.specs.Tables.{withFields, wider};
-ghost use Rattle.windows.specs.Told.{written};
+ghost use Rattle.units.specs.Told.{written};
 ghost use Rattle.limits.specs.Limit.{widths, values, limitOf, writtenOf};
 use fields::bits::field;
 use fields::bits::with_field;
-use windows::units::Written;
+use units::register::Written;
 
 // A reserved field is named by its lowest bit.
 pub struct Limit {

@@ -11,9 +11,9 @@ use Rattle.fields.specs.Fields.{field}
 use Rattle.words.proofs.AnswerLaws.{first-zero, first-none}
 use Rattle.words.proofs.TestLaws.{or-neither, or-either, or-skip, or-second, or-take, and-skip, and-first, and-second, and-both, and-holds, fails-exactly, fails-else}
 use Rattle.words.proofs.Theorems.{exact-fact}
-use Rattle.domains.specs.Registers.{present}
-use Rattle.domains.specs.Facts.{Present}
-use Rattle.domains.proofs.DomainFact.{present-exactly}
+use Rattle.contents.specs.Registers.{present}
+use Rattle.contents.specs.Facts.{Present}
+use Rattle.contents.proofs.RegisterFact.{present-exactly}
 use Rattle.permits.specs.Permits.{widthOf, aLimit, unwritable, refusalOf}
 use Rattle.permits.specs.Facts.{ALimit, Writable, Open, PermitFact}
 use Rattle.domains.specs.declared.headers.Header.{Header}

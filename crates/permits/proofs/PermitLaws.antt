@@ -12,7 +12,7 @@ use Rattle.words.specs.Answers.{first}
 use Rattle.fields.specs.Fields.{field, withField, fieldStored}
 use Rattle.words.proofs.AnswerLaws.{first-skip, first-take, first-end, first-zero}
 use Rattle.words.proofs.TestLaws.{or-skip, or-take, or-second, or-neither, or-either, and-skip, and-first, and-second, and-holds}
-use Rattle.domains.specs.Registers.{present}
+use Rattle.contents.specs.Registers.{present}
 use Rattle.domains.specs.declared.headers.Header.{Header}
 use Rattle.permits.specs.Permits.{placeOf, widthOf, spanOf, aLimit, unwritable, refusalOf}
 

@@ -5,7 +5,7 @@ use Prim.Native.Nat.{ℕ, _+_, _^_, _≤_, _<_}
 use mathlib.Core.Path.{_≡_}
 use mathlib.Core.Logic.{_⊎_, _↔_}
 use Rattle.fields.specs.Fields.{bit}
-use Rattle.domains.specs.Facts.{Present}
+use Rattle.contents.specs.Facts.{Present}
 use Rattle.permits.specs.Permits.{widthOf, refusalOf}
 use Rattle.domains.specs.declared.headers.Header.{Header}
 

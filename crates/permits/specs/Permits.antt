@@ -12,7 +12,7 @@ use lib.Dec.{ltb, leb, eqb}
 use lib.ListN.{getD}
 use Rattle.words.specs.Answers.{first}
 use Rattle.fields.specs.Fields.{field}
-use Rattle.domains.specs.Registers.{present}
+use Rattle.contents.specs.Registers.{present}
 use Rattle.domains.specs.declared.headers.Header.{Header}
 use Rattle.permits.specs.declared.refusals.Span.{Span}
 

@@ -1,8 +1,8 @@
 // The four fields of a limit by their numbers: 0 PWR_LIM, 1 TIME_WINDOW, 2 PWR_LIM_EN, 3 LOCK; and what refuses a write of one.
 ghost use mathlib.Core.Path.{_≡_};
 ghost use Rattle.permits.specs.Permits.{spanOf, aLimit, unwritable, refusalOf};
+use contents::registers::present;
 use domains::headers::Header;
-use domains::registers::present;
 use fields::bits::field;
 
 // Where a field stands: its lowest bit, its bits, and the first number that is too wide for it.

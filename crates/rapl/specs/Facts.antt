@@ -9,7 +9,7 @@ use Rattle.words.specs.Answers.{Answer, refused, gives}
 use Rattle.discovery.specs.Discovery.{Capture}
 use Rattle.features.specs.Places.{instanceNumber, instancePart}
 use Rattle.domains.specs.Domains.{domainNumber, domainOf}
-use Rattle.domains.specs.Registers.{contentOf}
+use Rattle.contents.specs.Registers.{contentOf}
 use Rattle.rapl.specs.Chains.{parentOf, chainOf}
 use Rattle.rapl.specs.Lookups.{instanceOr, domainFor, contentFor, chainFor}
 use Rattle.domains.specs.Facts.{Sound}

@@ -8,7 +8,7 @@ use Rattle.words.specs.Answers.{Answer, unless}
 use Rattle.discovery.specs.Discovery.{Capture}
 use Rattle.features.specs.Places.{instanceNumber, instancePart}
 use Rattle.domains.specs.Domains.{domainOf}
-use Rattle.domains.specs.Registers.{contentOf}
+use Rattle.contents.specs.Registers.{contentOf}
 use Rattle.rapl.specs.Chains.{chainOf}
 
 abbrev pub instanceOr : Capture → ℕ → (List ℕ → Answer) → Answer

@@ -19,7 +19,7 @@ use Rattle.features.specs.Places.{indexIn, missing, bankFor, featureNumber, fea
 use Rattle.windows.specs.Windows.{quartersOf, longEnough, placeOf, windowNumber, windowOf}
 use Rattle.domains.specs.Domains as domains
 use Rattle.domains.specs.Domains.{headerOf, headerIn, unused, wrong, domainNumber}
-use Rattle.domains.specs.Registers.{present, registerAt, absent, contentNumber, contentOf}
+use Rattle.contents.specs.Registers.{present, registerAt, absent, contentNumber, contentOf}
 use Rattle.rapl.specs.Lookups.{contentFor}
 use Rattle.permits.specs.Permits as permits
 use Rattle.permits.specs.Permits.{widthOf, aLimit, unwritable, refusalOf}

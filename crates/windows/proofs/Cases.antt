@@ -5,10 +5,8 @@ use mathlib.Core.List.{List, [], _∷_}
 use native.Mathlib.Omega.{arith}
 use Rattle.words.specs.Answers.{Answer, refused, gives, first}
 use Rattle.words.specs.Below.{least}
-use Rattle.fields.specs.Fields.{field, withField}
-use Rattle.fields.specs.Tables.{withFields, wider, writtenWord}
+use Rattle.fields.specs.Fields.{field}
 use Rattle.windows.specs.Windows.{quartersOf, longEnough, placeOf, windowNumber, windowOf}
-use Rattle.windows.specs.Units.{unitsOf, values, writtenOf}
 
 -- at T = 10 a time unit is 1/1,024 s: 0 ms, 1 ms, 1,000 ms and 28,000 ms; at T = 15 the longest window and one millisecond more; T 16
 abbrev asked-for : List Answer
@@ -26,17 +24,3 @@ durations = refl
 not-as-numbers : quartersOf 0x20 < quartersOf 0x01
 unfolding quartersOf field
 not-as-numbers = omega arith
-
--- document 001's default content: 1/8 W, 1/16,384 J, 1/1,024 s; the same with every reserved bit set, and written back
-units-read : values (unitsOf 0xA383) ∷ values (unitsOf 0xFFFFFFFFFFFFABB3) ∷ [] ≡ (3 ∷ 0 ∷ 14 ∷ 0 ∷ 10 ∷ 0 ∷ []) ∷ (3 ∷ 3 ∷ 14 ∷ 1 ∷ 10 ∷ 0xFFFFFFFFFFFF ∷ []) ∷ []
-unfolding unitsOf field
-units-read = refl
-
-units-back : writtenOf (unitsOf 0xFFFFFFFFFFFFABB3) ≡ gives (0xFFFFFFFFFFFFABB3 ∷ [])
-unfolding writtenWord first wider withFields withField unitsOf field
-units-back = refl
-
--- a time unit of 16 does not fit its four bits
-units-wide : writtenOf (record { power = 3; reserved4 = 0; energy = 14; reserved11 = 0; time = 16; reserved16 = 0 }) ≡ refused 17
-unfolding writtenWord first wider
-units-wide = refl

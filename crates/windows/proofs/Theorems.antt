@@ -1,4 +1,4 @@
--- The theorems of Facts.antt on window codes, units and answers, under their names. Assumes nothing.
+-- The theorems of Facts.antt on window codes and answers, under their names. Assumes nothing.
 use Prim.Native.Nat.{ℕ, _+_, _*_, _/_, _%_, _^_, _<_, _≤_}
 use mathlib.Core.Path.{_≡_, refl, sym, ap, _∙_, subst}
 use mathlib.Core.Bool.{Bool, true, false}
@@ -15,21 +15,17 @@ use Rattle.words.specs.Facts.{IsLeast}
 use Rattle.words.proofs.AnswerLaws.{first-zero, once}
 use Rattle.words.proofs.BelowLaws.{is-least, least-once}
 use Rattle.fields.proofs.FieldLaws.{field-lt}
-use Rattle.fields.proofs.Structures.{word-trips}
 use Rattle.words.proofs.TestLaws.{never-both}
 use Rattle.words.proofs.Theorems.{exact-fact, unless-fact}
 use Rattle.windows.specs.Windows.{quartersOf, codeAt, asked, longEnough, placeOf, windowNumber, windowOf}
-use Rattle.windows.specs.Units.{widths, unitsOf, values}
-use Rattle.windows.specs.Told.{told, written}
-use Rattle.windows.specs.Facts.{Ranged, Before, Enough, IsFirst, IsShortest, NoneLong, WindowFact, UnitsFact, TimeRead, ToldOnce, WrittenOnce}
+use Rattle.units.specs.Units.{unitsOf}
+use Rattle.windows.specs.Told.{told}
+use Rattle.windows.specs.Facts.{Ranged, Before, Enough, IsFirst, IsShortest, NoneLong, WindowFact, TimeRead, ToldOnce}
 use Rattle.windows.specs.declared.codes.Window.{Window}
 use Rattle.windows.specs.declared.codes.Window.the-variants as window
-use Rattle.windows.specs.declared.units.Units.{Units}
-use Rattle.windows.specs.declared.units.Written.{Written}
-use Rattle.windows.specs.declared.units.Written.the-variants.{Register, Refused}
+use Rattle.units.specs.declared.register.Written.the-variants.{Refused}
 use Rattle.windows.proofs.CodeLaws.{quarters-of, quarters-is, code-at, answer-17, answer-19, answer-code}
 use Rattle.windows.proofs.Order.{code-fact, any-code, not-before, lasts-once}
-use Rattle.windows.proofs.UnitLaws.{values-of, values-once}
 
 -- ---- the window code
 
@@ -170,10 +166,7 @@ module _ (ms unit : ℕ) where
           ⊎-elim (λ q. inr (inl (answer-19 ms unit h q))) (λ l. inr (inr (codeAt k, first-given (codeAt k) h (at-place k refl l)))) (eq-or-lt-of-le (place .ends))
       by false e = inl (answer-17 ms unit (leb-false unit 15 e))
 
--- ---- units
-
-pub units-fact : (u : Units) → UnitsFact u
-units-fact = word-trips widths values unitsOf values-of values-once (λ u. refl)
+-- ---- a time unit that was read
 
 pub time-read : (x : ℕ) → TimeRead x
 unfolding unitsOf
@@ -192,15 +185,3 @@ told-once = once told untold back
     back : (a : Window) → untold (told a) ≡ a
     back (window.Code c) = refl
     back (window.Refused n) = refl
-
-unwritten : Answer → Written
-unwritten (refused n) = Refused n
-unwritten (gives l) = Register (getD l 0 0)
-
-pub written-once : (a b : Written) → WrittenOnce a b
-unfolding unwritten
-written-once = once written unwritten back
-  where
-    back : (a : Written) → unwritten (written a) ≡ a
-    back (Register x) = refl
-    back (Refused n) = refl

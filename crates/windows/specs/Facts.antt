@@ -1,4 +1,4 @@
--- What is proved of window codes and units, for every number. Each is to be read without its proof; proofs/Order.antt (the order of codes)
+-- What is proved of window codes, for every number. Each is to be read without its proof; proofs/Order.antt (the order of codes)
 -- and proofs/Theorems.antt (all others) have a proof of each, under the same name with hyphens.
 -- Assumes nothing.
 use Prim.Native.Nat.{ℕ, _+_, _*_, _%_, _^_, _≤_, _<_}
@@ -7,13 +7,10 @@ use mathlib.Core.Logic.{_⊎_, _↔_, _≢_}
 use mathlib.Core.List.{[], _∷_}
 use Rattle.words.specs.Answers.{refused, gives}
 use Rattle.fields.specs.Fields.{field}
-use Rattle.fields.specs.Facts.{WordTrips}
 use Rattle.windows.specs.Windows.{quartersOf, codeOf, windowOf}
-use Rattle.windows.specs.Units.{widths, unitsOf, values}
-use Rattle.windows.specs.Told.{told, written}
+use Rattle.units.specs.Units.{unitsOf}
+use Rattle.windows.specs.Told.{told}
 use Rattle.windows.specs.declared.codes.Window.{Window}
-use Rattle.windows.specs.declared.units.Units.{Units}
-use Rattle.windows.specs.declared.units.Written.{Written}
 
 -- ---- codes and how long they last
 
@@ -83,22 +80,10 @@ pub record WindowFact (ms unit : ℕ) : Type 0 where
   pub is-shortest : (code : ℕ) → (windowOf ms unit ≡ gives (code ∷ [])) ↔ ((unit ≤ 15) × IsShortest ms unit code)
   pub complete : (windowOf ms unit ≡ refused 17) ⊎ ((windowOf ms unit ≡ refused 19) ⊎ ((code : ℕ) × (windowOf ms unit ≡ gives (code ∷ []))))
 
--- ---- units
-
--- Writing (`writtenOf u`): 17 exactly if a number does not fit; a content is given exactly if it has 64 bits and says these units; one of
--- the two always comes. So a register read and written back is the same 64 bits, reserved ones too, and units written and read back are
--- the same.
-abbrev pub UnitsFact : Units → Type 0
-UnitsFact u = WordTrips widths values unitsOf u
-
 -- A time unit that was read is in its range.
 abbrev pub TimeRead : ℕ → Type 0
 TimeRead x = (ms : ℕ) → windowOf ms (unitsOf x .time) ≢ refused 17
 
--- ---- two answers that say the same are the same
-
+-- Two answers that say the same are the same.
 abbrev pub ToldOnce : Window → Window → Type 0
 ToldOnce a b = told a ≡ told b → a ≡ b
-
-abbrev pub WrittenOnce : Written → Written → Type 0
-WrittenOnce a b = written a ≡ written b → a ≡ b

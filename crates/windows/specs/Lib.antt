@@ -1,4 +1,3 @@
 pub mod Windows
-pub mod Units
 pub mod Told
 pub mod Facts

@@ -4,13 +4,8 @@ use mathlib.Core.List.{[], _∷_}
 use Rattle.words.specs.Answers.{Answer, refused, gives}
 use Rattle.windows.specs.declared.codes.Window.{Window}
 use Rattle.windows.specs.declared.codes.Window.the-variants as window
-use Rattle.windows.specs.declared.units.Written.{Written}
-use Rattle.windows.specs.declared.units.Written.the-variants.{Register, Refused}
+use Rattle.units.specs.declared.register.Written.the-variants.{Refused}
 
 abbrev pub told : Window → Answer
 told (window.Code c) = gives (c ∷ [])
 told (window.Refused n) = refused n
-
-abbrev pub written : Written → Answer
-written (Register x) = gives (x ∷ [])
-written (Refused n) = refused n

@@ -7,7 +7,7 @@ use Rattle.words.specs.Answers.{Answer, refused, gives, first, orElse, earliest
 use Rattle.words.specs.Bytes.{numberAt, put, stored}
 use Rattle.fields.specs.Fields.{field, withField}
 use Rattle.domains.specs.Domains.{headerOf, headerIn, missing, unused, wrong, unsound, domainNumber}
-use Rattle.domains.specs.Registers.{present, registerPlace, registerAt}
+use Rattle.contents.specs.Registers.{present, registerPlace, registerAt}
 use Rattle.permits.specs.Permits.{placeOf, widthOf, aLimit, unwritable, refusalOf}
 use Rattle.writes.specs.Writes.{nextContent, nextNumber, nextOf}
 

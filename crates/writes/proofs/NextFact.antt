@@ -8,7 +8,7 @@ use Rattle.words.specs.Answers.{refused, gives, unless}
 use Rattle.words.proofs.AnswerLaws.{unless-number, earliest-stop, two-pass, two-zero, two-from}
 use Rattle.words.proofs.Theorems.{unless-fact}
 use Rattle.domains.specs.Domains.{headerIn, domainNumber}
-use Rattle.domains.specs.Registers.{registerAt}
+use Rattle.contents.specs.Registers.{registerAt}
 use Rattle.domains.proofs.DomainLaws.{number-low}
 use Rattle.permits.specs.Permits.{unwritable, refusalOf}
 use Rattle.writes.specs.Writes.{nextContent, nextNumber, nextOf}

@@ -9,10 +9,10 @@ use Rattle.words.specs.Answers.{refused, gives, unless}
 use Rattle.fields.specs.Fields.{withField}
 use Rattle.words.proofs.AnswerLaws.{unless-number, unless-gives, unless-refused, two-pass, two-zero, stage-stops}
 use Rattle.domains.specs.Domains.{headerIn, values, domainNumber, domainOf}
-use Rattle.domains.specs.Registers.{registerPlace, registerAt}
+use Rattle.contents.specs.Registers.{registerPlace, registerAt}
 use Rattle.domains.specs.declared.headers.Header.{Header}
 use Rattle.domains.proofs.DomainLaws.{known}
-use Rattle.domains.proofs.RegisterLaws.{register-inside}
+use Rattle.contents.proofs.RegisterLaws.{register-inside}
 use Rattle.permits.specs.Permits.{placeOf, widthOf, refusalOf}
 use Rattle.writes.specs.Writes.{nextContent, nextNumber, nextOf}
 use Rattle.permits.proofs.PermitLaws.{Passed, passed, limit-small}

@@ -19,10 +19,10 @@ use Rattle.features.proofs.PlaceLaws.{part-found}
 use Rattle.features.proofs.InsideLaws.{feature-found, instance-in-bank}
 use Rattle.features.proofs.Changed.{instance-same, part-same, entry-apart}
 use Rattle.domains.specs.Domains.{headerOf, headerIn, placeOf, missing, unused, unsound, wrong, values, domainNumber, domainOf}
-use Rattle.domains.specs.Registers.{registerPlace, registerAt, absent}
+use Rattle.contents.specs.Registers.{registerPlace, registerAt, absent}
 use Rattle.rapl.specs.Lookups.{domainFor, contentFor}
 use Rattle.domains.specs.declared.headers.Header.{Header}
-use Rattle.domains.proofs.RegisterLaws.{absent-none, content-by}
+use Rattle.contents.proofs.RegisterLaws.{absent-none, content-by}
 use Rattle.writes.specs.Writes.{nextContent, writeNumber, limitPlace, barLeft, lowLeft, highLeft}
 use Rattle.writes.specs.Facts.{left, ReadBack}
 use Rattle.permits.proofs.PermitLaws.{limit-small}

@@ -19,7 +19,7 @@ use Rattle.discovery.specs.Discovery.{Capture, birOf, barOf}
 use Rattle.features.specs.Places.{startFor, sizeFor, instanceNumber, instancePart}
 use Rattle.features.proofs.PlaceLaws.{part-found}
 use Rattle.features.proofs.InsideLaws.{instance-inside}
-use Rattle.domains.specs.Registers.{registerPlace, registerAt}
+use Rattle.contents.specs.Registers.{registerPlace, registerAt}
 use Rattle.permits.specs.Permits.{placeOf, widthOf}
 use Rattle.writes.specs.Writes.{nextContent, nextNumber, nextOf, nextFor, writeNumber, limitPlace, barLeft}
 use Rattle.writes.specs.Facts.{CapturesFact, Stored, WriteFact}

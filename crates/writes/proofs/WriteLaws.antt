@@ -15,7 +15,7 @@ use Rattle.features.specs.Places.{instancePart}
 use Rattle.places.specs.declared.found.Place.{Place}
 use Rattle.features.proofs.PlaceLaws.{InstancePlace}
 use Rattle.features.proofs.InsideLaws.{start-small}
-use Rattle.domains.specs.Registers.{registerPlace}
+use Rattle.contents.specs.Registers.{registerPlace}
 use Rattle.domains.proofs.DomainLaws.{inside}
 use Rattle.writes.specs.Writes.{nextOf, nextFor, writeNumber, barLeft, lowLeft, highLeft}
 use Rattle.permits.proofs.PermitLaws.{limit-small}

@@ -14,7 +14,7 @@ use Rattle.features.specs.Places.{startFor, sizeFor, instancePart}
 use Rattle.domains.specs.Domains.{headerIn, domainNumber}
 use Rattle.domains.specs.Facts.{Sound}
 use Rattle.rapl.specs.Lookups.{domainFor, contentFor}
-use Rattle.domains.specs.Registers.{registerAt}
+use Rattle.contents.specs.Registers.{registerAt}
 use Rattle.permits.specs.Permits.{placeOf, widthOf}
 use Rattle.writes.specs.Writes.{nextContent, nextOf, nextFor, writeNumber, limitPlace, barLeft, lowLeft, highLeft}
 use Rattle.permits.specs.Facts.{Absent, Shut, Open, Locked}

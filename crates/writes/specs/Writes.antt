@@ -17,7 +17,7 @@ use Rattle.fields.specs.Fields.{withField}
 use Rattle.discovery.specs.Discovery.{Capture, birOf, barOf}
 use Rattle.features.specs.Places.{startFor, instancePart}
 use Rattle.domains.specs.Domains.{headerIn, domainNumber}
-use Rattle.domains.specs.Registers.{registerPlace, registerAt}
+use Rattle.contents.specs.Registers.{registerPlace, registerAt}
 use Rattle.rapl.specs.Lookups.{instanceOr}
 use Rattle.permits.specs.Permits.{placeOf, refusalOf, widthOf}
 

@@ -4,7 +4,7 @@ use mathlib.Core.Path.{_≡_, sym, ap, _∙_}
 use mathlib.Core.Bool.{true, false}
 use native.Mathlib.Omega.{arith}
 use borrow.Author.Tests.{not-true, not-false}
-use Rattle.domains.specs.Registers.{present}
+use Rattle.contents.specs.Registers.{present}
 use Rattle.permits.specs.Permits.{widthOf, aLimit, unwritable}
 use Rattle.permits.specs.declared.refusals.Span.{Span}
 use Rattle.permits.proofs.PermitLaws.{limit-small, refusal-other, refusal-absent, refusal-unwritable, refusal-wide, refusal-locked, refusal-none}

@@ -5,7 +5,7 @@ use Prim.Native.Nat.{ℕ}
 use Rattle.words.specs.Answers.{Answer, refused, numberIn}
 use Rattle.discovery.specs.Discovery.{Capture, captured}
 use Rattle.places.specs.Told as features
-use Rattle.domains.specs.Registers.{contentOf}
+use Rattle.contents.specs.Registers.{contentOf}
 use Rattle.rapl.specs.Lookups.{contentFor}
 use Rattle.rapl.proofs.LookupLaws.{or-refused, or-found}
 use borrow.Author.Needs.{needs}

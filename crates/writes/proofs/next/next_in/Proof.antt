@@ -5,7 +5,7 @@ use native.Mathlib.Omega.{arith}
 use Rattle.words.specs.Answers.{refused, gives, numberIn}
 use Rattle.fields.specs.Fields.{fieldStored}
 use Rattle.domains.specs.Domains.{values, domainOf}
-use Rattle.domains.specs.Registers.{registerAt}
+use Rattle.contents.specs.Registers.{registerAt}
 use Rattle.domains.specs.Told.{told}
 use Rattle.domains.proofs.DomainLaws.{known, inside}
 use Rattle.permits.specs.declared.refusals.Span.{Span}

@@ -1,0 +1,28 @@
+-- `contents::registers::present` meets its contract: three registers by their number, the others by their bit. Assumes nothing.
+use Prim.Native.Nat.{ℕ}
+use mathlib.Core.Path.{sym, ap, _∙_}
+use lib.Dec.{eqb}
+use Rattle.contents.proofs.RegisterLaws.{present-0, present-1, present-9, present-bit}
+use borrow.Author.Needs.{needs}
+use Rattle.contents.proofs.registers.present.Statement.{statement}
+use Rattle.contents.proofs.registers.present.Tie as tie
+
+returns : tie.Need-returns
+returns c = sym (present-0 _ _ (c .if1 .taken))
+
+returns-2 : tie.Need-returns-2
+returns-2 c = sym (present-1 _ _ (c .if2 .taken))
+
+returns-3 : tie.Need-returns-3
+returns-3 c = sym (present-9 _ _ (c .if3 .taken))
+
+field-requires : tie.Need-field-requires
+field-requires c κs = search needs
+
+returns-4 : tie.Need-returns-4
+returns-4 c =
+    let b = c .before in
+    ap (λ (x : ℕ). eqb x 1) (c .field .ensures) ∙ sym (present-bit _ _ (b .before .before .if1 .left) (b .before .if2 .left) (b .if3 .left))
+
+pub present-spec : {M : Type 1} → statement M
+present-spec = tie.close (tie.spec returns returns-2 returns-3 field-requires returns-4)

@@ -1,0 +1,3 @@
+pub mod UnitLaws
+pub mod Theorems
+pub mod Cases
