@@ -4,8 +4,8 @@ use crate::lines::hex;
 use crate::lines::number;
 use crate::lines::outcome;
 use crate::lines::text;
-use words::bytes::store_u16;
-use words::bytes::store_u64;
+use stores::bytes::store_u16;
+use stores::bytes::store_u64;
 use words::bytes::u64_at;
 
 // Vendor word, and at 0x100 the VSEC structure: 1 entry of 2 words, tBIR 1, table at 2,000.

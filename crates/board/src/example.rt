@@ -7,8 +7,8 @@ use crate::lines::refused;
 use crate::lines::value;
 use domains::headers::Known;
 use rapl::lookups;
-use words::bytes::store_u16;
-use words::bytes::store_u64;
+use stores::bytes::store_u16;
+use stores::bytes::store_u64;
 
 // Vendor word, and at 0x100 the VSEC structure: 1 entry of 2 words, tBIR 1, table at 2,000.
 pub(crate) fn set_config(config: &mut [u8]) {

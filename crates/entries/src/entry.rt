@@ -5,7 +5,7 @@ ghost use Rattle.entries.specs.Entry.{widths, values, entryOf, entryAt, 
 ghost use Rattle.entries.specs.Told.{decoded};
 use fields::bits::field;
 use fields::bits::with_field;
-use words::bytes::store_u64;
+use stores::bytes::store_u64;
 use words::bytes::u64_at;
 
 pub struct Entry {

@@ -9,11 +9,11 @@ use crate::lines::refused;
 use crate::lines::text;
 use domains::headers::Known;
 use entries::entry;
+use stores::bytes::store_u64;
 use units::register::Written;
 use windows::codes::Window;
 use windows::codes::quarters;
 use windows::codes::window_code;
-use words::bytes::store_u64;
 
 // Read, and written to a blank part.
 pub(crate) fn structure() {

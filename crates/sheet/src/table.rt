@@ -6,12 +6,10 @@ use crate::lines::text;
 use crate::lines::value;
 use counts::valid::valid_count;
 use discovery::table::discover;
-use entries::entry::Entry;
 use features::instances::feature;
 use registers::lookup::register_place;
-use words::bytes::store_u16;
-use words::bytes::store_u64;
-use words::bytes::u64_at;
+use stores::bytes::store_u16;
+use stores::bytes::store_u64;
 
 // Vendor word, and at 0x100 the VSEC structure: 10 entries of 2 words, tBIR 1, table at 2,000.
 pub(crate) fn set_config(config: &mut [u8]) {
@@ -20,44 +18,23 @@ pub(crate) fn set_config(config: &mut [u8]) {
     store_u64(config, 0x108, 0x0000_07D1_020A_0000);
 }
 
-fn set_entry(
-    bar: &mut [u8],
-    at: usize,
-    id: u64,
-    instances: u64,
-    words: u64,
-    offset: u64,
-    attribute: u64,
-) {
-    let e = Entry {
-        id: id,
-        instances: instances,
-        words: words,
-        offset: offset,
-        attribute: attribute,
-        reserved: 0,
-    };
-    let mut part = [0u8; 8];
-    entries::entry::write(&mut part, e);
-    store_u64(bar, at, u64_at(&part, 0));
-}
-
-// RAPL, PEM, PMAX, DRC, SST. (000 gives DRC no identifier; here it has the reserved 4.)
+// RAPL, PEM, PMAX, DRC, SST: from the right TPMI_ID, NumEntries, EntrySize, CapOffset, Attribute. (000 gives DRC no identifier; here it has
+// the reserved 4.)
 fn set_first(bar: &mut [u8]) {
-    set_entry(bar, 2000, 0x00, 1, 96, 4, 1);
-    set_entry(bar, 2008, 0x01, 5, 6, 8, 1);
-    set_entry(bar, 2016, 0x03, 1, 16, 12, 0);
-    set_entry(bar, 2024, 0x04, 1, 8, 16, 1);
-    set_entry(bar, 2032, 0x05, 5, 182, 20, 1);
+    store_u64(bar, 2000, 0x0001_0004_0060_01_00);
+    store_u64(bar, 2008, 0x0001_0008_0006_05_01);
+    store_u64(bar, 2016, 0x0000_000C_0010_01_03);
+    store_u64(bar, 2024, 0x0001_0010_0008_01_04);
+    store_u64(bar, 2032, 0x0001_0014_00B6_05_05);
 }
 
 // UFS, CSR_ALL, CSR_COMPUTE, CSR_PKG_ROOT, MISC_REGS.
 fn set_others(bar: &mut [u8]) {
-    set_entry(bar, 2040, 0x02, 1, 8, 24, 1);
-    set_entry(bar, 2048, 0xFD, 5, 160, 28, 1);
-    set_entry(bar, 2056, 0xFE, 3, 40, 32, 1);
-    set_entry(bar, 2064, 0xFF, 1, 20, 36, 1);
-    set_entry(bar, 2072, 0x06, 3, 16, 40, 1);
+    store_u64(bar, 2040, 0x0001_0018_0008_01_02);
+    store_u64(bar, 2048, 0x0001_001C_00A0_05_FD);
+    store_u64(bar, 2056, 0x0001_0020_0028_03_FE);
+    store_u64(bar, 2064, 0x0001_0024_0014_01_FF);
+    store_u64(bar, 2072, 0x0001_0028_0010_03_06);
 }
 
 // The sheet's table. Instances 1 and 3 of PEM read all ones: they are not valid.

@@ -12,7 +12,7 @@ use Rattle.domains.proofs.Told as domains
 use Rattle.units.proofs.Theorems as units
 use Rattle.channel.proofs.Theorems as channel
 use Rattle.energy.proofs.Theorems as energy
-use Rattle.stamp.specs.Unique.{WordsUnique, CapturesUnique, FieldsUnique, PlacesUnique, ChannelUnique, VsecUnique, DomainsUnique, EntriesUnique, UnitsUnique, BanksUnique, EnergyUnique, WalkUnique, WindowsUnique, ContentsUnique, LimitsUnique, DiscoveryUnique, PermitsUnique, FeaturesUnique, RaplUnique, CountsUnique, RegistersUnique, WritesUnique, ListingUnique}
+use Rattle.stamp.specs.Unique.{WordsUnique, CapturesUnique, StoresUnique, FieldsUnique, PlacesUnique, ChannelUnique, VsecUnique, DomainsUnique, EntriesUnique, UnitsUnique, BanksUnique, EnergyUnique, WalkUnique, WindowsUnique, ContentsUnique, LimitsUnique, DiscoveryUnique, PermitsUnique, FeaturesUnique, RaplUnique, CountsUnique, RegistersUnique, WritesUnique, ListingUnique}
 
 pub words-unique : WordsUnique
 words-unique =
@@ -21,10 +21,6 @@ words-unique =
       u16-at = λ κs a x y s t p q. p ∙ sym q;
       u32-at = λ κs a x y s t p q. p ∙ sym q;
       u64-at = λ κs a x y s t p q. p ∙ sym q;
-      store-u8 = λ κs a x y s t p q. p ∙ sym q;
-      store-u16 = λ κs a x y s t p q. p ∙ sym q;
-      store-u32 = λ κs a x y s t p q. p ∙ sym q;
-      store-u64 = λ κs a x y s t p q. p ∙ sym q;
     }
 
 pub captures-unique : CapturesUnique
@@ -34,6 +30,15 @@ captures-unique =
       config-in = λ κs a x y s t p q. p ∙ sym q;
       low-in = λ κs a x y s t p q. p ∙ sym q;
       high-in = λ κs a x y s t p q. p ∙ sym q;
+    }
+
+pub stores-unique : StoresUnique
+stores-unique =
+    record {
+      store-u8 = λ κs a x y s t p q. p ∙ sym q;
+      store-u16 = λ κs a x y s t p q. p ∙ sym q;
+      store-u32 = λ κs a x y s t p q. p ∙ sym q;
+      store-u64 = λ κs a x y s t p q. p ∙ sym q;
     }
 
 pub fields-unique : FieldsUnique

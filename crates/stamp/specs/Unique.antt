@@ -11,14 +11,14 @@ use Rattle.words.proofs.bytes.u8_at.Reads as words-u8-at
 use Rattle.words.proofs.bytes.u16_at.Reads as words-u16-at
 use Rattle.words.proofs.bytes.u32_at.Reads as words-u32-at
 use Rattle.words.proofs.bytes.u64_at.Reads as words-u64-at
-use Rattle.words.proofs.bytes.store_u8.Reads as words-store-u8
-use Rattle.words.proofs.bytes.store_u16.Reads as words-store-u16
-use Rattle.words.proofs.bytes.store_u32.Reads as words-store-u32
-use Rattle.words.proofs.bytes.store_u64.Reads as words-store-u64
 use Rattle.captures.proofs.layout.layout_of.Reads as captures-layout-of
 use Rattle.captures.proofs.layout.config_in.Reads as captures-config-in
 use Rattle.captures.proofs.layout.low_in.Reads as captures-low-in
 use Rattle.captures.proofs.layout.high_in.Reads as captures-high-in
+use Rattle.stores.proofs.bytes.store_u8.Reads as stores-store-u8
+use Rattle.stores.proofs.bytes.store_u16.Reads as stores-store-u16
+use Rattle.stores.proofs.bytes.store_u32.Reads as stores-store-u32
+use Rattle.stores.proofs.bytes.store_u64.Reads as stores-store-u64
 use Rattle.fields.proofs.bits.field.Reads as fields-field
 use Rattle.fields.proofs.bits.with_field.Reads as fields-with-field
 use Rattle.places.proofs.found.number_of.Reads as places-number-of
@@ -91,16 +91,18 @@ pub record WordsUnique : Type 0 where
   pub u16-at : Only words-u16-at.Post
   pub u32-at : Only words-u32-at.Post
   pub u64-at : Only words-u64-at.Post
-  pub store-u8 : Fixes (λ κs x s. now (s .0)) words-store-u8.Post
-  pub store-u16 : Fixes (λ κs x s. now (s .0)) words-store-u16.Post
-  pub store-u32 : Fixes (λ κs x s. now (s .0)) words-store-u32.Post
-  pub store-u64 : Fixes (λ κs x s. now (s .0)) words-store-u64.Post
 
 pub record CapturesUnique : Type 0 where
   pub layout-of : Only captures-layout-of.Post
   pub config-in : Fixes (λ κs x s. now x) captures-config-in.Post
   pub low-in : Fixes (λ κs x s. now x) captures-low-in.Post
   pub high-in : Fixes (λ κs x s. now x) captures-high-in.Post
+
+pub record StoresUnique : Type 0 where
+  pub store-u8 : Fixes (λ κs x s. now (s .0)) stores-store-u8.Post
+  pub store-u16 : Fixes (λ κs x s. now (s .0)) stores-store-u16.Post
+  pub store-u32 : Fixes (λ κs x s. now (s .0)) stores-store-u32.Post
+  pub store-u64 : Fixes (λ κs x s. now (s .0)) stores-store-u64.Post
 
 pub record FieldsUnique : Type 0 where
   pub field : Only fields-field.Post

@@ -6,7 +6,7 @@ ghost use Rattle.vsec.specs.Structure.{vsecOf, vsecAt, lowWidths, highWi
 ghost use Rattle.vsec.specs.Told.{decoded};
 use fields::bits::field;
 use fields::bits::with_field;
-use words::bytes::store_u64;
+use stores::bytes::store_u64;
 use words::bytes::u64_at;
 
 pub struct Vsec {

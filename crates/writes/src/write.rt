@@ -10,7 +10,7 @@ use places::found::Found;
 use places::found::Value;
 use places::found::number_of;
 use places::found::part_of;
-use words::bytes::store_u64;
+use stores::bytes::store_u64;
 
 // The refusal's number, 0 where a content is given.
 fn refused(shown: Value) -> u8

@@ -1,14 +1,14 @@
--- `words::bytes::store` meets its contract. The invariant: storing the rest of v from place at + i on gives what storing v gives. The measure is n - i. Assumes nothing.
+-- `stores::bytes::store` meets its contract. The invariant: storing the rest of v from place at + i on gives what storing v gives. The measure is n - i. Assumes nothing.
 use mathlib.Core.Path.{_≡_, refl, sym, _∙_}
 use Prim.Native.Nat.{_+_, _-_, _≤_}
 use native.Mathlib.Nat.{add-zero, sub-zero}
 use native.Mathlib.Omega.{arith}
 use lib.ListN.{length, length-set}
 use borrow.Author.Tests.{le-leb, lt-leb}
 use Rattle.words.specs.Bytes.{put}
 use Rattle.words.proofs.StoreLaws.{put-step, put-none}
-use Rattle.words.proofs.bytes.store.Statement.{statement}
-use Rattle.words.proofs.bytes.store.Tie as tie
+use Rattle.stores.proofs.bytes.store.Statement.{statement}
+use Rattle.stores.proofs.bytes.store.Tie as tie
 
 abbrev Inv-loop : tie.InvT-loop
 Inv-loop s₀ at n v rest₀ i₀ s rest i = (i ≤ n) × (length s ≡ length s₀) × (put s (at + i) (n - i) rest ≡ put s₀ at n v)
