@@ -1,0 +1,4 @@
+pub mod PageLaws
+pub mod NumeralLaws
+pub mod NumeralFact
+pub mod Cases

@@ -1,0 +1,140 @@
+-- Words on a page: where they fit, where they do not, and a text that grows. Assumes nothing.
+use Prim.Native.Nat.{ℕ, _+_, _-_, _≤_, _<_}
+use mathlib.Core.Path.{_≡_, refl, sym, ap, ap₂, _∙_}
+use mathlib.Core.Logic.{_⊎_, ⊎-elim}
+use mathlib.Core.Bool.{Bool, true, false, cond}
+use mathlib.Core.List.{List, [], _∷_, _++_, append-assoc}
+use borrow.Author.Tests.{le-leb, lt-leb, leb-true, leb-false}
+use lib.Dec.{leb}
+use lib.ListN.{length, getD, take, drop, length-append, length-take, length-drop, List·getD-append}
+use lib.Seq.{length-take-le, take-length, drop-drop, take-append-seam, drop-append-add, getD-append-add, getD-take, getD-drop}
+use native.Mathlib.Omega.{arith}
+use Rattle.text.specs.Page.{fits, over, after, overBoth, afterBoth, page}
+use Rattle.text.specs.Facts.{PutFact, PageFact}
+
+module _ (xs : List ℕ) (at : ℕ) (ys : List ℕ) where
+  pub over-fits : at + length ys ≤ length xs → over xs at ys ≡ take at xs ++ ys ++ drop (at + length ys) xs
+  unfolding over
+  over-fits h = rw (le-leb (at + length ys) (length xs) h)
+
+  pub after-fits : at + length ys ≤ length xs → after xs at ys ≡ at + length ys
+  unfolding after
+  after-fits h = rw (le-leb (at + length ys) (length xs) h)
+
+  pub over-short : length xs < at + length ys → over xs at ys ≡ xs
+  unfolding over
+  over-short h = rw (lt-leb (at + length ys) (length xs) h)
+
+  pub after-short : length xs < at + length ys → after xs at ys ≡ at
+  unfolding after
+  after-short h = rw (lt-leb (at + length ys) (length xs) h)
+
+  -- what stands before the words, with them
+  head-length : at + length ys ≤ length xs → length (take at xs ++ ys) ≡ at + length ys
+  head-length h = length-append (take at xs) ys ∙ ap (λ (n : ℕ). n + length ys) (length-take-le at xs (omega arith))
+
+  over-length : (b : Bool) → fits xs at ys ≡ b → length (over xs at ys) ≡ length xs
+  over-length true e =
+      let h : at + length ys ≤ length xs = leb-true (at + length ys) (length xs) e in
+      ap length (over-fits h) ∙ length-append (take at xs ++ ys) (drop (at + length ys) xs)
+      ∙ ap₂ (λ (m n : ℕ). m + n) (head-length h) (length-drop (at + length ys) xs)
+      ∙ omega arith
+  over-length false e = ap length (over-short (leb-false (at + length ys) (length xs) e))
+
+  pub length-over : length (over xs at ys) ≡ length xs
+  length-over = over-length (fits xs at ys) refl
+
+  -- words pasted to their end
+  pub pasted : (many : ℕ) → length ys ≡ many → at + many ≤ length xs → take at xs ++ take many ys ++ drop (at + many) xs ≡ over xs at ys
+  pasted many e h =
+      ap (λ (n : ℕ). take at xs ++ take n ys ++ drop (at + n) xs) (sym e)
+      ∙ ap (λ (zs : List ℕ). take at xs ++ zs ++ drop (at + length ys) xs) (take-length ys)
+      ∙ sym (over-fits (omega arith))
+
+-- ---- what stands on a page then
+
+module _ (xs : List ℕ) (at : ℕ) (ys : List ℕ) where
+  word-at : at + length ys ≤ length xs → (k : ℕ) → k < length ys → getD (over xs at ys) (at + k) 0 ≡ getD ys k 0
+  word-at h k l =
+      let e : at + length ys ≡ length (take at xs ++ ys) = sym (head-length xs at ys h) in
+      ap (λ (zs : List ℕ). getD zs (at + k) 0) (over-fits xs at ys h)
+      ∙ List·getD-append (take at xs ++ ys) (drop (at + length ys) xs) 0 (at + k) (omega arith)
+      ∙ ap (λ (m : ℕ). getD (take at xs ++ ys) (m + k) 0) (sym (length-take-le at xs (omega arith)))
+      ∙ getD-append-add (take at xs) ys k 0
+
+  before-at : at + length ys ≤ length xs → (k : ℕ) → k < at → getD (over xs at ys) k 0 ≡ getD xs k 0
+  before-at h k l =
+      let e : length (take at xs) ≡ at = length-take-le at xs (omega arith) in
+      let e′ : length (take at xs ++ ys) ≡ at + length ys = head-length xs at ys h in
+      ap (λ (zs : List ℕ). getD zs k 0) (over-fits xs at ys h)
+      ∙ List·getD-append (take at xs ++ ys) (drop (at + length ys) xs) 0 k (omega arith)
+      ∙ List·getD-append (take at xs) ys 0 k (omega arith)
+      ∙ getD-take at xs k 0 l
+
+  past-at : at + length ys ≤ length xs → (k : ℕ) → at + length ys ≤ k → getD (over xs at ys) k 0 ≡ getD xs k 0
+  past-at h k l =
+      let m : ℕ = at + length ys in
+      let e : k ≡ m + (k - m) = omega arith in
+      ap (λ (zs : List ℕ). getD zs k 0) (over-fits xs at ys h)
+      ∙ ap (λ (j : ℕ). getD (take at xs ++ ys ++ drop m xs) j 0) (e ∙ ap (λ (j : ℕ). j + (k - m)) (sym (head-length xs at ys h)))
+      ∙ getD-append-add (take at xs ++ ys) (drop m xs) (k - m) 0
+      ∙ getD-drop m xs (k - m) 0
+      ∙ ap (λ (j : ℕ). getD xs j 0) (sym e)
+
+  others-at : (b : Bool) → fits xs at ys ≡ b → (k : ℕ) → (k < at) ⊎ (at + length ys ≤ k) → getD (over xs at ys) k 0 ≡ getD xs k 0
+  others-at true e k o = let h = leb-true (at + length ys) (length xs) e in ⊎-elim (before-at h k) (past-at h k) o
+  others-at false e k o = ap (λ (zs : List ℕ). getD zs k 0) (over-short xs at ys (leb-false (at + length ys) (length xs) e))
+
+  pub put-fact : PutFact xs at ys
+  put-fact =
+      record {
+        words = word-at;
+        others = others-at (fits xs at ys) refl;
+        size = length-over xs at ys;
+        place = after-fits xs at ys;
+        short = λ h. (over-short xs at ys h, after-short xs at ys h);
+      }
+
+-- ---- a text that grows
+
+pub page-length : (xs text : List ℕ) → length text ≤ length xs → length (page xs text) ≡ length xs
+page-length xs text h = length-append text (drop (length text) xs) ∙ ap (λ (n : ℕ). length text + n) (length-drop (length text) xs) ∙ omega arith
+
+module _ (xs text ys : List ℕ) where
+  both : length (text ++ ys) ≤ length xs → length text + length ys ≤ length xs
+  both h = omega (arith, length-append text ys)
+
+  page-grows : length (text ++ ys) ≤ length xs → over (page xs text) (length text) ys ≡ page xs (text ++ ys)
+  page-grows h =
+      let l : length text + length ys ≤ length xs = both h in
+      let e : length (page xs text) ≡ length xs = page-length xs text (omega arith) in
+      over-fits (page xs text) (length text) ys (omega arith)
+      ∙ ap (λ (zs : List ℕ). zs ++ ys ++ drop (length text + length ys) (page xs text)) (take-append-seam text (drop (length text) xs))
+      ∙ ap (λ (zs : List ℕ). text ++ ys ++ zs) (drop-append-add text (drop (length text) xs) (length ys) ∙ drop-drop (length ys) (length text) xs)
+      ∙ ap (λ (n : ℕ). text ++ ys ++ drop n xs) (sym (length-append text ys))
+
+  page-place : length (text ++ ys) ≤ length xs → after (page xs text) (length text) ys ≡ length (text ++ ys)
+  page-place h =
+      let l : length text + length ys ≤ length xs = both h in
+      let e : length (page xs text) ≡ length xs = page-length xs text (omega arith) in
+      after-fits (page xs text) (length text) ys (omega arith) ∙ sym (length-append text ys)
+
+  pub page-fact : PageFact xs text ys
+  page-fact = record { grows = page-grows; place = page-place }
+
+-- two runs of words, put one after the other
+pub one-then : (xs : List ℕ) (at : ℕ) (ys zs : List ℕ) {m r : ℕ} {ps rs : List ℕ} → (m ≡ after xs at ys) × (ps ≡ over xs at ys)
+    → (r ≡ after ps m zs) × (rs ≡ over ps m zs) → (r ≡ afterBoth xs at ys zs) × (rs ≡ overBoth xs at ys zs)
+one-then xs at ys zs p q =
+    (q .0 ∙ ap₂ (λ (ps : List ℕ) (m : ℕ). after ps m zs) (p .1) (p .0), q .1 ∙ ap₂ (λ (ps : List ℕ) (m : ℕ). over ps m zs) (p .1) (p .0))
+
+-- the same after a text
+module _ (xs text ys zs : List ℕ) (h : length (text ++ ys ++ zs) ≤ length xs) where
+  first-room : length (text ++ ys) ≤ length xs
+  first-room = omega (arith, length-append (text ++ ys) zs)
+
+  pub both-grow : overBoth (page xs text) (length text) ys zs ≡ page xs (text ++ ys ++ zs)
+  both-grow = ap₂ (λ (ps : List ℕ) (n : ℕ). over ps n zs) (page-grows xs text ys first-room) (page-place xs text ys first-room) ∙ page-grows xs (text ++ ys) zs h
+
+  pub both-place : afterBoth (page xs text) (length text) ys zs ≡ length (text ++ ys ++ zs)
+  both-place = ap₂ (λ (ps : List ℕ) (n : ℕ). after ps n zs) (page-grows xs text ys first-room) (page-place xs text ys first-room) ∙ page-place xs (text ++ ys) zs h
