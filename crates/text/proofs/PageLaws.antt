@@ -8,9 +8,10 @@ use borrow.Author.Tests.{le-leb, lt-leb, leb-true, leb-false}
 use lib.Dec.{leb}
 use lib.ListN.{length, getD, take, drop, length-append, length-take, length-drop, List·getD-append}
 use lib.Seq.{length-take-le, take-length, drop-drop, take-append-seam, drop-append-add, getD-append-add, getD-take, getD-drop}
+use native.Mathlib.Nat.{add-assoc}
 use native.Mathlib.Omega.{arith}
-use Rattle.text.specs.Page.{fits, over, after, overBoth, afterBoth, page}
-use Rattle.text.specs.Facts.{PutFact, PageFact}
+use Rattle.text.specs.Page.{fits, over, after, overBoth, afterBoth}
+use Rattle.text.specs.Facts.{PutFact, ThenFact}
 
 module _ (xs : List ℕ) (at : ℕ) (ys : List ℕ) where
   pub over-fits : at + length ys ≤ length xs → over xs at ys ≡ take at xs ++ ys ++ drop (at + length ys) xs
@@ -95,46 +96,38 @@ module _ (xs : List ℕ) (at : ℕ) (ys : List ℕ) where
         short = λ h. (over-short xs at ys h, after-short xs at ys h);
       }
 
--- ---- a text that grows
+-- ---- two runs of words
 
-pub page-length : (xs text : List ℕ) → length text ≤ length xs → length (page xs text) ≡ length xs
-page-length xs text h = length-append text (drop (length text) xs) ∙ ap (λ (n : ℕ). length text + n) (length-drop (length text) xs) ∙ omega arith
-
-module _ (xs text ys : List ℕ) where
-  both : length (text ++ ys) ≤ length xs → length text + length ys ≤ length xs
-  both h = omega (arith, length-append text ys)
-
-  page-grows : length (text ++ ys) ≤ length xs → over (page xs text) (length text) ys ≡ page xs (text ++ ys)
-  page-grows h =
-      let l : length text + length ys ≤ length xs = both h in
-      let e : length (page xs text) ≡ length xs = page-length xs text (omega arith) in
-      over-fits (page xs text) (length text) ys (omega arith)
-      ∙ ap (λ (zs : List ℕ). zs ++ ys ++ drop (length text + length ys) (page xs text)) (take-append-seam text (drop (length text) xs))
-      ∙ ap (λ (zs : List ℕ). text ++ ys ++ zs) (drop-append-add text (drop (length text) xs) (length ys) ∙ drop-drop (length ys) (length text) xs)
-      ∙ ap (λ (n : ℕ). text ++ ys ++ drop n xs) (sym (length-append text ys))
-
-  page-place : length (text ++ ys) ≤ length xs → after (page xs text) (length text) ys ≡ length (text ++ ys)
-  page-place h =
-      let l : length text + length ys ≤ length xs = both h in
-      let e : length (page xs text) ≡ length xs = page-length xs text (omega arith) in
-      after-fits (page xs text) (length text) ys (omega arith) ∙ sym (length-append text ys)
-
-  pub page-fact : PageFact xs text ys
-  page-fact = record { grows = page-grows; place = page-place }
-
--- two runs of words, put one after the other
+-- put one after the other
 pub one-then : (xs : List ℕ) (at : ℕ) (ys zs : List ℕ) {m r : ℕ} {ps rs : List ℕ} → (m ≡ after xs at ys) × (ps ≡ over xs at ys)
     → (r ≡ after ps m zs) × (rs ≡ over ps m zs) → (r ≡ afterBoth xs at ys zs) × (rs ≡ overBoth xs at ys zs)
 one-then xs at ys zs p q =
     (q .0 ∙ ap₂ (λ (ps : List ℕ) (m : ℕ). after ps m zs) (p .1) (p .0), q .1 ∙ ap₂ (λ (ps : List ℕ) (m : ℕ). over ps m zs) (p .1) (p .0))
 
--- the same after a text
-module _ (xs text ys zs : List ℕ) (h : length (text ++ ys ++ zs) ≤ length xs) where
-  first-room : length (text ++ ys) ≤ length xs
-  first-room = omega (arith, length-append (text ++ ys) zs)
+module _ (xs : List ℕ) (at : ℕ) (ys zs : List ℕ) where
+  all-fit : at + length (ys ++ zs) ≤ length xs → at + length ys + length zs ≤ length xs
+  all-fit h = omega (arith, length-append ys zs)
 
-  pub both-grow : overBoth (page xs text) (length text) ys zs ≡ page xs (text ++ ys ++ zs)
-  both-grow = ap₂ (λ (ps : List ℕ) (n : ℕ). over ps n zs) (page-grows xs text ys first-room) (page-place xs text ys first-room) ∙ page-grows xs (text ++ ys) zs h
+  then-words : at + length (ys ++ zs) ≤ length xs → overBoth xs at ys zs ≡ over xs at (ys ++ zs)
+  then-words h =
+      let l : at + length ys + length zs ≤ length xs = all-fit h in
+      let p : List ℕ = take at xs ++ ys in
+      let d : List ℕ = drop (at + length ys) xs in
+      let e : length p ≡ at + length ys = head-length xs at ys (omega arith) in
+      let o : over xs at ys ≡ p ++ d = over-fits xs at ys (omega arith) in
+      let f : length (p ++ d) ≡ length xs = ap length (sym o) ∙ length-over xs at ys in
+      ap₂ (λ (ps : List ℕ) (m : ℕ). over ps m zs) o (after-fits xs at ys (omega arith) ∙ sym e)
+      ∙ over-fits (p ++ d) (length p) zs (omega arith)
+      ∙ ap₂ (λ (us vs : List ℕ). us ++ zs ++ vs) (take-append-seam p d) (drop-append-add p d (length zs) ∙ drop-drop (length zs) (at + length ys) xs)
+      ∙ ap₂ (λ (us : List ℕ) (m : ℕ). us ++ drop m xs) (append-assoc (take at xs) ys zs) (add-assoc at (length ys) (length zs) ∙ ap (λ (m : ℕ). at + m) (sym (length-append ys zs)))
+      ∙ sym (over-fits xs at (ys ++ zs) h)
 
-  pub both-place : afterBoth (page xs text) (length text) ys zs ≡ length (text ++ ys ++ zs)
-  both-place = ap₂ (λ (ps : List ℕ) (n : ℕ). after ps n zs) (page-grows xs text ys first-room) (page-place xs text ys first-room) ∙ page-place xs (text ++ ys) zs h
+  then-place : at + length (ys ++ zs) ≤ length xs → afterBoth xs at ys zs ≡ at + length (ys ++ zs)
+  then-place h =
+      let l : at + length ys + length zs ≤ length xs = all-fit h in
+      ap (λ (m : ℕ). after (over xs at ys) m zs) (after-fits xs at ys (omega arith))
+      ∙ after-fits (over xs at ys) (at + length ys) zs (omega (arith, length-over xs at ys))
+      ∙ add-assoc at (length ys) (length zs) ∙ ap (λ (m : ℕ). at + m) (sym (length-append ys zs))
+
+  pub then-fact : ThenFact xs at ys zs
+  then-fact = record { words = then-words; place = then-place }

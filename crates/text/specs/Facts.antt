@@ -6,7 +6,7 @@ use mathlib.Core.Path.{_≡_}
 use mathlib.Core.Logic.{_⊎_, _≢_}
 use mathlib.Core.List.{List, [], _∷_, _++_}
 use lib.ListN.{length, getD}
-use Rattle.text.specs.Page.{over, after, page}
+use Rattle.text.specs.Page.{over, after, overBoth, afterBoth}
 use Rattle.text.specs.Numerals.{glyphOf, placesOf, numeralOf, readAs}
 
 -- Where words fit they stand there, every other byte is as it was, and the place moves past them; where they do not, all is as it was.
@@ -18,10 +18,10 @@ pub record PutFact (xs : List ℕ) (at : ℕ) (ys : List ℕ) : Type 0 where
   pub place : at + length ys ≤ length xs → after xs at ys ≡ at + length ys
   pub short : length xs < at + length ys → (over xs at ys ≡ xs) × (after xs at ys ≡ at)
 
--- Words put after a text that stands at a page's start are the longer text, where it fits.
-pub record PageFact (xs text ys : List ℕ) : Type 0 where
-  pub grows : length (text ++ ys) ≤ length xs → over (page xs text) (length text) ys ≡ page xs (text ++ ys)
-  pub place : length (text ++ ys) ≤ length xs → after (page xs text) (length text) ys ≡ length (text ++ ys)
+-- Two runs of words, the second put where the first ended, are one run, where it fits.
+pub record ThenFact (xs : List ℕ) (at : ℕ) (ys zs : List ℕ) : Type 0 where
+  pub words : at + length (ys ++ zs) ≤ length xs → overBoth xs at ys zs ≡ over xs at (ys ++ zs)
+  pub place : at + length (ys ++ zs) ≤ length xs → afterBoth xs at ys zs ≡ at + length (ys ++ zs)
 
 -- A number as text: it reads back as the number; every byte stands for a digit of the base; a zero stands in front of nothing but 0
 -- itself; it has as many digits as the number takes, at least one, and at most k where the number is below b to the k. So two numbers

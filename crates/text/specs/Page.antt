@@ -2,8 +2,7 @@
 --   fits xs at ys    ys end inside the page xs
 --   over xs at ys    the page with ys from place `at` on; the page itself where they do not fit
 --   after xs at ys   the place after them; `at` itself where they do not fit
---   overBoth, afterBoth   the same of two runs of words, one after the other
---   page xs text     the page xs once a text stands at its start
+--   overBoth, afterBoth   the same of two runs of words, the second where the first ended
 -- Assumes nothing.
 use Prim.Native.Nat.{ℕ, _+_}
 use mathlib.Core.Bool.{Bool, cond}
@@ -25,6 +24,3 @@ overBoth xs at ys zs = over (over xs at ys) (after xs at ys) zs
 
 abbrev pub afterBoth : List ℕ → ℕ → List ℕ → List ℕ → ℕ
 afterBoth xs at ys zs = after (over xs at ys) (after xs at ys) zs
-
-abbrev pub page : List ℕ → List ℕ → List ℕ
-page xs text = text ++ drop (length text) xs

@@ -1,8 +1,10 @@
 -- `text::page::shown` meets its contract. Assumes nothing.
 use borrow.Author.Needs.{needs}
-use mathlib.Core.Path.{sym, _∙_}
+use Prim.Native.Nat.{ℕ}
+use mathlib.Core.Path.{sym, ap, _∙_}
 use native.Mathlib.Nat.{sub-zero}
 use native.Mathlib.Omega.{arith}
+use lib.ListN.{take}
 use lib.Seq.{take-length, take-all}
 use Rattle.text.proofs.page.shown.Statement.{statement}
 use Rattle.text.proofs.page.shown.Tie as tie
@@ -29,7 +31,7 @@ part-result-end-2 : tie.Need-part-result-end-2
 part-result-end-2 c = search needs
 
 returns-2 : tie.Need-returns-2
-returns-2 c = rw sub-zero
+returns-2 c = let s = c .before .before .args in ap (λ (n : ℕ). take n (s .page .now)) (sub-zero (s .at))
 
 pub shown-spec : {M : Type 1} → statement M
 shown-spec =
