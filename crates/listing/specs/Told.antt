@@ -6,6 +6,7 @@ use Rattle.words.specs.Answers.{refused, gives}
 use Rattle.listing.specs.Lines.{Said, unreadable, answers}
 use Rattle.listing.specs.declared.lines.Listing.{Listing}
 use Rattle.listing.specs.declared.lines.Listing.the-variants.{Unreadable, Refused, Table}
+use Rattle.listing.specs.declared.lines.Feature.{Feature}
 use Rattle.listing.specs.declared.lines.Line.{Line}
 use Rattle.listing.specs.declared.lines.Line.the-variants.{Says, Nothing}
 
@@ -15,6 +16,10 @@ listed Unreadable = unreadable
 listed (Refused n) = answers (refused n)
 listed (Table t) = answers (gives (t .bir ∷ t .start ∷ 8 ∷ t .entries ∷ []))
 
+-- the five numbers of a line, in its order
+abbrev pub numbers : Feature → List ℕ
+numbers f = f .id ∷ f .instances ∷ f .valid ∷ f .size ∷ f .start ∷ []
+
 abbrev pub said : Line → List ℕ
-said (Says f) = f .id ∷ f .instances ∷ f .valid ∷ f .size ∷ f .start ∷ []
+said (Says f) = numbers f
 said Nothing = []

@@ -12,7 +12,7 @@ use Rattle.domains.proofs.Told as domains
 use Rattle.units.proofs.Theorems as units
 use Rattle.channel.proofs.Theorems as channel
 use Rattle.energy.proofs.Theorems as energy
-use Rattle.stamp.specs.Unique.{WordsUnique, CapturesUnique, StoresUnique, FieldsUnique, PlacesUnique, ChannelUnique, VsecUnique, DomainsUnique, EntriesUnique, UnitsUnique, BanksUnique, EnergyUnique, WalkUnique, WindowsUnique, ContentsUnique, LimitsUnique, DiscoveryUnique, PermitsUnique, FeaturesUnique, RaplUnique, CountsUnique, RegistersUnique, WritesUnique, ListingUnique}
+use Rattle.stamp.specs.Unique.{WordsUnique, CapturesUnique, StoresUnique, TextUnique, FieldsUnique, PlacesUnique, ChannelUnique, VsecUnique, DomainsUnique, EntriesUnique, UnitsUnique, BanksUnique, EnergyUnique, WalkUnique, WindowsUnique, ContentsUnique, LimitsUnique, DiscoveryUnique, PermitsUnique, FeaturesUnique, RaplUnique, CountsUnique, RegistersUnique, WritesUnique, ListingUnique}
 
 pub words-unique : WordsUnique
 words-unique =
@@ -39,6 +39,22 @@ stores-unique =
       store-u16 = λ κs a x y s t p q. p ∙ sym q;
       store-u32 = λ κs a x y s t p q. p ∙ sym q;
       store-u64 = λ κs a x y s t p q. p ∙ sym q;
+    }
+
+pub text-unique : TextUnique
+text-unique =
+    record {
+      put = λ κs a x y s t p q. p .0 ∙ sym (q .0);
+      put-kept = λ κs a x y s t p q. p .1 ∙ sym (q .1);
+      shown = λ κs a x y s t p q. p ∙ sym q;
+      decimal = λ κs a x y s t p q. p .0 ∙ sym (q .0);
+      decimal-kept = λ κs a x y s t p q. p .1 ∙ sym (q .1);
+      hex = λ κs a x y s t p q. p .0 ∙ sym (q .0);
+      hex-kept = λ κs a x y s t p q. p .1 ∙ sym (q .1);
+      labelled = λ κs a x y s t p q. p .0 ∙ sym (q .0);
+      labelled-kept = λ κs a x y s t p q. p .1 ∙ sym (q .1);
+      labelled-hex = λ κs a x y s t p q. p .0 ∙ sym (q .0);
+      labelled-hex-kept = λ κs a x y s t p q. p .1 ∙ sym (q .1);
     }
 
 pub fields-unique : FieldsUnique
@@ -208,4 +224,6 @@ listing-unique =
       listing-of = λ κs a x y s t p q. listing.listed-once x y (p ∙ sym q);
       bar-in = λ κs a x y s t p q. p ∙ sym q;
       line-of = λ κs a x y s t p q. listing.said-once x y (p ∙ sym q);
+      list = λ κs a x y s t p q. places.valued-once x y (p .0 ∙ sym (q .0));
+      list-kept = λ κs a x y s t p q. p .1 ∙ sym (q .1);
     }

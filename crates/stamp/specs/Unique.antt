@@ -19,6 +19,12 @@ use Rattle.stores.proofs.bytes.store_u8.Reads as stores-store-u8
 use Rattle.stores.proofs.bytes.store_u16.Reads as stores-store-u16
 use Rattle.stores.proofs.bytes.store_u32.Reads as stores-store-u32
 use Rattle.stores.proofs.bytes.store_u64.Reads as stores-store-u64
+use Rattle.text.proofs.page.put.Reads as text-put
+use Rattle.text.proofs.page.shown.Reads as text-shown
+use Rattle.text.proofs.numerals.decimal.Reads as text-decimal
+use Rattle.text.proofs.numerals.hex.Reads as text-hex
+use Rattle.text.proofs.numerals.labelled.Reads as text-labelled
+use Rattle.text.proofs.numerals.labelled_hex.Reads as text-labelled-hex
 use Rattle.fields.proofs.bits.field.Reads as fields-field
 use Rattle.fields.proofs.bits.with_field.Reads as fields-with-field
 use Rattle.places.proofs.found.number_of.Reads as places-number-of
@@ -79,6 +85,7 @@ use Rattle.writes.proofs.write.write.Reads as writes-write
 use Rattle.listing.proofs.lines.listing_of.Reads as listing-listing-of
 use Rattle.listing.proofs.lines.bar_in.Reads as listing-bar-in
 use Rattle.listing.proofs.lines.line_of.Reads as listing-line-of
+use Rattle.listing.proofs.output.list.Reads as listing-list
 
 abbrev pub Fixes : {L : Type 0} {A R E B : L → Type 0} → ((κs : L) → R κs → E κs → B κs) → ((κs : L) → A κs → R κs → E κs → Type 0) → Type 0
 Fixes {L} {A} {R} {E} out P = (κs : L) (a : A κs) (x y : R κs) (s t : E κs) → P κs a x s → P κs a y t → out κs x s ≡ out κs y t
@@ -103,6 +110,19 @@ pub record StoresUnique : Type 0 where
   pub store-u16 : Fixes (λ κs x s. now (s .0)) stores-store-u16.Post
   pub store-u32 : Fixes (λ κs x s. now (s .0)) stores-store-u32.Post
   pub store-u64 : Fixes (λ κs x s. now (s .0)) stores-store-u64.Post
+
+pub record TextUnique : Type 0 where
+  pub put : Only text-put.Post
+  pub put-kept : Fixes (λ κs x s. now (s .0)) text-put.Post
+  pub shown : Fixes (λ κs x s. now x) text-shown.Post
+  pub decimal : Only text-decimal.Post
+  pub decimal-kept : Fixes (λ κs x s. now (s .0)) text-decimal.Post
+  pub hex : Only text-hex.Post
+  pub hex-kept : Fixes (λ κs x s. now (s .0)) text-hex.Post
+  pub labelled : Only text-labelled.Post
+  pub labelled-kept : Fixes (λ κs x s. now (s .0)) text-labelled.Post
+  pub labelled-hex : Only text-labelled-hex.Post
+  pub labelled-hex-kept : Fixes (λ κs x s. now (s .0)) text-labelled-hex.Post
 
 pub record FieldsUnique : Type 0 where
   pub field : Only fields-field.Post
@@ -209,3 +229,5 @@ pub record ListingUnique : Type 0 where
   pub listing-of : Only listing-listing-of.Post
   pub bar-in : Fixes (λ κs x s. now x) listing-bar-in.Post
   pub line-of : Only listing-line-of.Post
+  pub list : Only listing-list.Post
+  pub list-kept : Fixes (λ κs x s. now (s .1 .0)) listing-list.Post

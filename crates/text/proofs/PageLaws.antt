@@ -3,12 +3,12 @@ use Prim.Native.Nat.{ℕ, _+_, _-_, _≤_, _<_}
 use mathlib.Core.Path.{_≡_, refl, sym, ap, ap₂, _∙_}
 use mathlib.Core.Logic.{_⊎_, ⊎-elim}
 use mathlib.Core.Bool.{Bool, true, false, cond}
-use mathlib.Core.List.{List, [], _∷_, _++_, append-assoc}
+use mathlib.Core.List.{List, [], _∷_, _++_, append-nil, append-assoc}
 use borrow.Author.Tests.{le-leb, lt-leb, leb-true, leb-false}
 use lib.Dec.{leb}
-use lib.ListN.{length, getD, take, drop, length-append, length-take, length-drop, List·getD-append}
+use lib.ListN.{length, getD, take, drop, take-append-drop, length-append, length-take, length-drop, List·getD-append}
 use lib.Seq.{length-take-le, take-length, drop-drop, take-append-seam, drop-append-add, getD-append-add, getD-take, getD-drop}
-use native.Mathlib.Nat.{add-assoc}
+use native.Mathlib.Nat.{zero-add, add-zero, add-assoc}
 use native.Mathlib.Omega.{arith}
 use Rattle.text.specs.Page.{fits, over, after, overBoth, afterBoth}
 use Rattle.text.specs.Facts.{PutFact, ThenFact}
@@ -131,3 +131,44 @@ module _ (xs : List ℕ) (at : ℕ) (ys zs : List ℕ) where
 
   pub then-fact : ThenFact xs at ys zs
   then-fact = record { words = then-words; place = then-place }
+
+-- ---- a text that grows
+
+-- the text ys stands on the page xs from place `at` on: the page is ps now, and m is the place after the text
+pub record Stands (xs : List ℕ) (at : ℕ) (ys ps : List ℕ) (m : ℕ) : Type 0 where
+  pub page : ps ≡ over xs at ys
+  pub place : m ≡ at + length ys
+
+-- a shorter text fits where a longer one does
+pub room-first : (n at : ℕ) (ys zs : List ℕ) → at + length (ys ++ zs) ≤ n → at + length ys ≤ n
+room-first n at ys zs h = omega (arith, length-append ys zs)
+
+pub stands-none : (xs : List ℕ) (at : ℕ) → at ≤ length xs → Stands xs at [] xs at
+stands-none xs at h =
+    record {
+      page = sym (over-fits xs at [] (omega arith) ∙ ap₂ (λ (us : List ℕ) (m : ℕ). us ++ drop m xs) (append-nil (take at xs)) (add-zero at) ∙ take-append-drop at xs);
+      place = sym (add-zero at);
+    }
+
+module _ (xs : List ℕ) (at : ℕ) {ys ps : List ℕ} {m : ℕ} (so : Stands xs at ys ps m) (zs : List ℕ) (h : at + length (ys ++ zs) ≤ length xs) where
+  -- words put after it
+  pub stands-on : {r : ℕ} {rs : List ℕ} → (r ≡ after ps m zs) × (rs ≡ over ps m zs) → Stands xs at (ys ++ zs) rs r
+  stands-on q =
+      let here : m ≡ after xs at ys = so .place ∙ sym (after-fits xs at ys (room-first (length xs) at ys zs h)) in
+      let both = one-then xs at ys zs (here, so .page) q in
+      record { page = both .1 ∙ then-fact xs at ys zs .words h; place = both .0 ∙ then-fact xs at ys zs .place h }
+
+  -- words that are known to fit
+  pub stands-next : {r : ℕ} {rs : List ℕ} → (r ≡ m + length zs) × (rs ≡ over ps m zs) → Stands xs at (ys ++ zs) rs r
+  stands-next q =
+      let e : length ps ≡ length xs = ap length (so .page) ∙ length-over xs at ys in
+      stands-on (q .0 ∙ sym (after-fits ps m zs (omega (arith, so .place, length-append ys zs))), q .1)
+
+-- two runs of words put after it
+pub stands-both : (xs : List ℕ) (at : ℕ) {ys ps : List ℕ} {m : ℕ} → Stands xs at ys ps m → (us vs : List ℕ) → at + length (ys ++ us ++ vs) ≤ length xs
+    → {r : ℕ} {rs : List ℕ} → (r ≡ afterBoth ps m us vs) × (rs ≡ overBoth ps m us vs) → Stands xs at (ys ++ us ++ vs) rs r
+stands-both xs at {ys} so us vs h q = stands-on xs at (stands-on xs at so us (room-first (length xs) at (ys ++ us) vs h) (refl, refl)) vs h q
+
+-- a text at the page's start
+pub stands-start : {xs ys ps : List ℕ} {m : ℕ} → Stands xs 0 ys ps m → (m ≡ length ys) × (ps ≡ over xs 0 ys)
+stands-start so = (so .place ∙ zero-add _, so .page)
