@@ -3,3 +3,4 @@ pub mod Runs
 pub mod Demand3
 pub mod Theorems
 pub mod Night
+pub mod Dummies
