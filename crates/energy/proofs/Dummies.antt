@@ -33,5 +33,6 @@ dummies-fall =
     record {
       as-ours = as-ours;
       zeroed-falls = λ d. let e = same-value (sym (ap nothing (night-fact .summed)) ∙ night-total zeroed d) in omega (arith, e);
+      first-rise-night = night-first;
       first-rise-falls = λ d. let e = same-value (sym night-first ∙ night-total firstRise d) in omega (arith, e);
     }

@@ -19,6 +19,7 @@ use Rattle.words.specs.Answers.{Answer, refused, gives}
 use Rattle.energy.specs.Hall.{Named, allClosed, answersTo}
 use Rattle.energy.specs.Account.{Event, calls, shut, Supposed}
 use Rattle.energy.specs.Facts.{history, Asked, ours, Demand3Of}
+use Rattle.energy.specs.Night.{night}
 use Rattle.channel.specs.declared.calls.Call.{Call}
 use Rattle.channel.specs.declared.calls.Call.the-variants.{Open, Read, Resume, Close, Ask}
 
@@ -58,8 +59,10 @@ heardOnce k b (x ∷ xs) (gives vs ∷ ys) =
 abbrev pub firstRise : Asked
 firstRise xs k = ours (heardOnce k false xs (answersTo allClosed xs)) k
 
--- A meter that keeps demand 3 answers as ours does wherever the supposition is met; so neither of the two keeps it.
+-- A meter that keeps demand 3 answers as ours does wherever the supposition is met; so neither of the two keeps it: the worked night's total
+-- is not 0, and not the rise into its first reading, 32, which is all that the second answers there.
 pub record DummiesFall : Type 0 where
   pub as-ours : (ask : Asked) → Demand3Of ask → (k : ℕ) (es : List Event) → Supposed shut (history k es) → ask (calls es) k ≡ ours (calls es) k
   pub zeroed-falls : Demand3Of zeroed → ⊥
+  pub first-rise-night : firstRise (calls night) 3 ≡ gives (32 ∷ [])
   pub first-rise-falls : Demand3Of firstRise → ⊥

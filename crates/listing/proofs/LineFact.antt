@@ -1,9 +1,8 @@
 -- The lines of an accepted capture say what the lookups say. Assumes nothing.
-use Prim.Native.Nat.{ℕ, _+_, _*_, _<_}
-use mathlib.Core.Path.{_≡_, refl, sym, ap, subst, _∙_}
-use mathlib.Core.Bool.{false}
-use mathlib.Core.Logic.{_⊎_, ⊎-elim, _≢_}
-use mathlib.Core.List.{List, [], _∷_}
+use Prim.Native.Nat.{ℕ, _*_, _<_}
+use mathlib.Core.Path.{_≡_, refl, sym, ap, _∙_}
+use mathlib.Core.Logic.{_⊎_, ⊎-elim}
+use mathlib.Core.List.{[], _∷_}
 use lib.Dec.{eqb}
 use borrow.Author.Tests.{eq-eqb}
 use Rattle.words.specs.Answers.{gives}
@@ -14,7 +13,7 @@ use Rattle.banks.specs.Facts.{Filled}
 use Rattle.banks.specs.declared.faults.Bank.{Bank}
 use Rattle.banks.proofs.FaultFact.{filled-exactly}
 use Rattle.discovery.specs.Discovery.{Capture, birOf, barOf, tableOf, entriesOf, numberOf}
-use Rattle.features.specs.Places.{bankFor, sizeFor, featureNumber, featureOf}
+use Rattle.features.specs.Places.{bankFor, featureNumber, featureOf}
 use Rattle.features.proofs.LookupFact.{lookup-fact, place-fact}
 use Rattle.counts.specs.Valid.{validCountIn, countOf}
 use Rattle.counts.proofs.CountLaws.{count-found}

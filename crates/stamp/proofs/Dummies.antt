@@ -1,45 +1,32 @@
 -- Our meter keeps each statement, and the worked captures refuse the dummies. Assumes nothing.
-use Prim.Native.Nat.{ℕ, zero, suc, _+_, _<_}
+use Prim.Native.Nat.{ℕ}
 use mathlib.Core.Path.{_≡_, refl, sym, ap, _∙_}
-use mathlib.Core.Bool.{Bool, true, _&&_}
-use mathlib.Core.Logic.{_↔_, _≢_}
+use mathlib.Core.Logic.{_≢_}
 use mathlib.Core.List.{List, [], _∷_}
 use native.Mathlib.Omega.{arith}
-use borrow.Author.Tests.{ltb-true}
-use lib.Dec.{ltb}
 use lib.ListN.{getD}
-use Rattle.words.specs.Answers.{Answer, gives, valueIn, first, orElse, earliest}
-use Rattle.words.specs.Below.{anyBelow, firstBelow, least}
-use Rattle.words.specs.Bytes.{AllBytes, numberAt}
+use Rattle.words.specs.Answers.{Answer, gives, valueIn}
+use Rattle.words.specs.Bytes.{numberAt}
 use Rattle.words.proofs.AnswerLaws.{unless-passes}
-use Rattle.words.proofs.TestLaws.{and-both}
 use Rattle.fields.specs.Fields.{field}
 use Rattle.fields.specs.Masks.{howMany}
-use Rattle.vsec.specs.Structure.{vsecOf, vsecAt, fixedWrong}
-use Rattle.walk.specs.Walk.{identifierAt, nextAt, vsecIdAt, followed, takenAt, headerAt, walkFrom, emptyList, walkOf}
-use Rattle.entries.specs.Entry.{entryOf, entryAt}
-use Rattle.banks.specs.Faults.{bankOf, bankIn, emptyBank, repeats, meets, faultAt, faultsOf}
-use Rattle.discovery.specs.Discovery.{Capture, structureOf, barOf, misshapen, beforeWalk, birNumber, tableNumber, numberOf}
+use Rattle.discovery.specs.Discovery.{Capture, barOf}
 use Rattle.discovery.proofs.DiscoveryFact.{discovery-fact}
-use Rattle.features.specs.Places.{indexIn, missing, bankFor, featureNumber, invalidAt, unsound, instanceNumber, instancePart}
+use Rattle.features.specs.Places.{bankFor, featureNumber, instanceNumber, instancePart}
 use Rattle.counts.specs.Facts.{found}
 use Rattle.counts.proofs.CountFact.{count-fact}
-use Rattle.domains.specs.Domains as domains
-use Rattle.domains.specs.Domains.{headerOf, headerIn, unused, wrong, domainNumber}
-use Rattle.contents.specs.Registers.{present, registerAt}
 use Rattle.rapl.specs.Lookups.{chainFor}
-use Rattle.rapl.specs.Chains.{stepAt, climbFrom, chainOf}
 use Rattle.rapl.specs.Facts.{IsChain}
 use Rattle.rapl.proofs.ChainFact.{chain-fact}
 use Rattle.rapl.proofs.CaptureFact.{capture-fact}
-use Rattle.permits.specs.Permits as permits
-use Rattle.permits.specs.Permits.{widthOf, aLimit, unwritable, refusalOf}
-use Rattle.writes.specs.Writes.{nextContent, nextNumber, nextOf, nextFor, writeNumber, limitPlace}
+use Rattle.permits.specs.Permits.{placeOf, widthOf}
+use Rattle.writes.specs.Writes.{nextContent, nextOf, nextFor, writeNumber, limitPlace}
 use Rattle.writes.proofs.NextFact.{next-fact}
 use Rattle.writes.proofs.WriteFact.{captures-fact, write-fact}
 use Rattle.stamp.specs.Table.{blank, board}
 use Rattle.stamp.specs.Dummies.{Permitted, PermitsExactly, StoresOf, CountsOf, ChainsOf, OfAWrite, twoLines, family, DummiesFall}
 use Rattle.stamp.proofs.Roads.{or-gives}
+use Rattle.stamp.proofs.Worked.{blank-accepted, board-permitted, board-zero, board-bytes, counted, two-counted, climbed, two-climbed}
 
 -- ---- ours
 
@@ -69,49 +56,6 @@ our-chains c i n k z =
     let e = capture-fact c i n 0 .chain z in
     (λ g. s .0 (sym e ∙ g), λ h. e ∙ s .1 h)
 
--- ---- the worked captures
-
-blank-accepted : numberOf (blank 4 6528) ≡ 0
-unfolding first orElse earliest anyBelow firstBelow numberAt field vsecOf vsecAt fixedWrong identifierAt nextAt vsecIdAt followed takenAt headerAt walkFrom emptyList walkOf entryOf entryAt bankOf bankIn emptyBank repeats meets faultAt faultsOf structureOf barOf misshapen beforeWalk birNumber tableNumber numberOf
-blank-accepted = refl
-
-board-permitted : writeNumber board 0 0 1 0 1000 ≡ 0
-unfolding first orElse earliest anyBelow firstBelow least numberAt field vsecOf vsecAt fixedWrong identifierAt nextAt vsecIdAt followed takenAt headerAt walkFrom emptyList walkOf entryOf entryAt bankOf bankIn emptyBank repeats meets faultAt faultsOf structureOf barOf misshapen beforeWalk birNumber tableNumber numberOf indexIn missing bankFor featureNumber invalidAt unsound instanceNumber instancePart headerOf headerIn unused wrong domains.missing domains.unsound domainNumber present registerAt permits.placeOf widthOf aLimit unwritable refusalOf nextContent nextNumber nextOf nextFor writeNumber
-board-permitted = refl
-
-board-zero : field (permits.placeOf 0) (widthOf 0) (numberAt (barOf board) (limitPlace board 0 0 1) 8) ≡ 0
-unfolding first least numberAt field vsecOf vsecAt fixedWrong identifierAt nextAt vsecIdAt followed takenAt headerAt walkFrom emptyList walkOf entryOf entryAt bankOf bankIn emptyBank structureOf barOf indexIn bankFor permits.placeOf widthOf
-board-zero = refl
-
-abbrev allBytes : List ℕ → Bool
-allBytes [] = true
-allBytes (x ∷ xs) = ltb x 256 && allBytes xs
-
-bytes-all : (xs : List ℕ) → allBytes xs ≡ true → AllBytes xs
-bytes-all [] e k = omega arith
-bytes-all (x ∷ xs) e zero = ltb-true x 256 (and-both (ltb x 256) (allBytes xs) e .0)
-bytes-all (x ∷ xs) e (suc k) = bytes-all xs (and-both (ltb x 256) (allBytes xs) e .1) k
-
-board-bytes : allBytes (barOf board) ≡ true
-unfolding first numberAt field vsecOf vsecAt fixedWrong identifierAt nextAt vsecIdAt followed takenAt headerAt walkFrom emptyList walkOf structureOf barOf
-board-bytes = refl
-
--- the two features of document 01's two lines, each of one instance: what is counted
-abbrev counted : ℕ → List ℕ
-counted id = featureNumber twoLines id ∷ bankFor twoLines id .instances ∷ howMany (found twoLines id) (bankFor twoLines id .instances) ∷ []
-
-two-counted : (counted 0 ≡ 0 ∷ 1 ∷ 1 ∷ []) × (counted 2 ≡ 0 ∷ 1 ∷ 0 ∷ [])
-unfolding first orElse earliest anyBelow firstBelow least numberAt field vsecOf vsecAt fixedWrong identifierAt nextAt vsecIdAt followed takenAt headerAt walkFrom emptyList walkOf entryOf entryAt bankOf bankIn emptyBank repeats meets faultAt faultsOf structureOf barOf misshapen beforeWalk birNumber tableNumber numberOf indexIn missing bankFor featureNumber invalidAt unsound instanceNumber howMany
-two-counted = (refl, refl)
-
--- the second domain is a root, or one step below one
-abbrev climbed : ℕ → ℕ × Answer
-climbed parent = (instanceNumber (family parent) 0 0, chainOf (instancePart (family parent) 0 0) 1)
-
-two-climbed : (climbed 1 ≡ (0, gives (0 ∷ []))) × (climbed 0 ≡ (0, gives (1 ∷ [])))
-unfolding first orElse earliest anyBelow firstBelow least numberAt field vsecOf vsecAt fixedWrong identifierAt nextAt vsecIdAt followed takenAt headerAt walkFrom emptyList walkOf entryOf entryAt bankOf bankIn emptyBank repeats meets faultAt faultsOf structureOf barOf misshapen beforeWalk birNumber tableNumber numberOf indexIn missing bankFor featureNumber invalidAt unsound instanceNumber instancePart headerOf headerIn unused wrong domains.missing domains.unsound domainNumber stepAt climbFrom chainOf
-two-climbed = (refl, refl)
-
 -- ---- the dummies
 
 same-value : {m n : ℕ} → gives (m ∷ []) ≡ gives (n ∷ []) → m ≡ n
@@ -119,8 +63,8 @@ same-value e = ap (λ (a : Answer). valueIn a 0) e
 
 no-field : (left : OfAWrite (List ℕ)) → StoresOf left → left board 0 0 1 0 1000 ≢ barOf board
 no-field left s e =
-    let r = s board 0 0 1 0 1000 (bytes-all (barOf board) board-bytes) board-permitted .reads in
-    let z : _≡_ {A = ℕ} 0 1000 = sym board-zero ∙ ap (λ (l : List ℕ). field (permits.placeOf 0) (widthOf 0) (numberAt l (limitPlace board 0 0 1) 8)) (sym e) ∙ r in
+    let r = s board 0 0 1 0 1000 board-bytes board-permitted .reads in
+    let z : _≡_ {A = ℕ} 0 1000 = sym board-zero ∙ ap (λ (l : List ℕ). field (placeOf 0) (widthOf 0) (numberAt l (limitPlace board 0 0 1) 8)) (sym e) ∙ r in
     omega arith
 
 module _ (count : Capture → ℕ → Answer) (k : CountsOf count) (f : ℕ → ℕ)
