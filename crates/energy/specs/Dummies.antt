@@ -15,7 +15,7 @@ use mathlib.Core.Path.{_≡_}
 use mathlib.Core.Bool.{Bool, true, false, cond, _&&_}
 use mathlib.Core.List.{List, [], _∷_}
 use lib.Dec.{eqb}
-use Rattle.words.specs.Answers.{Answer, refused, gives}
+use Rattle.words.specs.Answers.{Answer, refused, gives, numberIn}
 use Rattle.energy.specs.Hall.{Named, allClosed, answersTo}
 use Rattle.energy.specs.Account.{Event, calls, shut, Supposed}
 use Rattle.energy.specs.Facts.{history, Asked, ours, Demand3Of}
@@ -59,10 +59,12 @@ heardOnce k b (x ∷ xs) (gives vs ∷ ys) =
 abbrev pub firstRise : Asked
 firstRise xs k = ours (heardOnce k false xs (answersTo allClosed xs)) k
 
--- A meter that keeps demand 3 answers as ours does wherever the supposition is met; so neither of the two keeps it: the worked night's total
--- is not 0, and not the rise into its first reading, 32, which is all that the second answers there.
+-- Both refuse exactly as ours does. A meter that keeps demand 3 answers as ours does wherever the supposition is met; so neither of the two
+-- keeps it: the worked night's total is not 0, and not the rise into its first reading, 32, which is all that the second answers there.
 pub record DummiesFall : Type 0 where
+  pub zeroed-refuses : (xs : List Named) (k : ℕ) → numberIn (zeroed xs k) ≡ numberIn (ours xs k)
+  pub first-rise-refuses : (xs : List Named) (k : ℕ) → numberIn (firstRise xs k) ≡ numberIn (ours xs k)
+  pub first-rise-night : firstRise (calls night) 3 ≡ gives (32 ∷ [])
   pub as-ours : (ask : Asked) → Demand3Of ask → (k : ℕ) (es : List Event) → Supposed shut (history k es) → ask (calls es) k ≡ ours (calls es) k
   pub zeroed-falls : Demand3Of zeroed → ⊥
-  pub first-rise-night : firstRise (calls night) 3 ≡ gives (32 ∷ [])
   pub first-rise-falls : Demand3Of firstRise → ⊥
