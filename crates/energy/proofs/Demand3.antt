@@ -12,7 +12,7 @@ use Rattle.words.specs.Answers.{unless, gives, first}
 use Rattle.channel.specs.Channels.{closed, isOpen, rise, tests, refusalOf, values, taken, share}
 use Rattle.energy.specs.Hall.{allClosed, testsOn, answerOn, leavesOn, leavesAll, answersTo, shares, hallTotal}
 use Rattle.energy.specs.Account.{Event, calls, Entry, if-so, accepted, entries, Account, shut, running, entered, account, Rises, Fair, Supposed, isShut, sumOf, due, part, parts}
-use Rattle.energy.specs.Facts.{history, Demand3, HallDemand3}
+use Rattle.energy.specs.Facts.{history, Demand3, ClosesAsAsked, ClosingDemand3, HallDemand3}
 use Rattle.channel.specs.declared.calls.Opening.{Opening}
 use Rattle.channel.specs.declared.calls.Reading.{Reading}
 use Rattle.channel.specs.declared.calls.Call.{Call}
@@ -143,6 +143,13 @@ asks-due k c x m =
 pub demand3 : Demand3
 unfolding answerOn testsOn tests values
 demand3 k es f = asks-due k _ (account shut (history k es)) (agrees k es f)
+
+pub closes-as-asked : ClosesAsAsked
+unfolding answerOn testsOn tests values
+closes-as-asked cs n = refl
+
+pub closing-demand3 : ClosingDemand3
+closing-demand3 k es f = closes-as-asked _ k ∙ demand3 k es f
 
 share-part : (u : ℕ) (c : Channel) (x : Account) → Agrees c x → share u c ≡ part u x
 unfolding share

@@ -3,3 +3,5 @@ pub mod Runs
 pub mod Demand3
 pub mod Theorems
 pub mod Night
+pub mod FirstRise
+pub mod Dummies

@@ -1,9 +1,10 @@
 -- The theorems of Facts.antt on one entry, under their names; and that two answers that say the same are the same. Assumes nothing.
-use Prim.Native.Nat.{ℕ, _≤_}
-use mathlib.Core.Path.{_≡_, refl, sym, ap, subst}
+use Prim.Native.Nat.{ℕ, _≤_, _<_}
+use mathlib.Core.Path.{_≡_, refl, sym, ap, subst, _∙_}
 use mathlib.Core.Bool.{Bool}
 use mathlib.Core.List.{List, [], _∷_}
 use native.Mathlib.Omega.{arith}
+use native.Mathlib.Decide.{decLe}
 use borrow.Author.Tests.{lt-ltb, le-ltb, ltb-true, ltb-false}
 use lib.Dec.{ltb}
 use lib.ListN.{length, getD}
@@ -15,13 +16,28 @@ use Rattle.fields.proofs.Structures.{value-trips}
 use Rattle.words.proofs.TestLaws.{fails-exactly}
 use Rattle.words.proofs.Theorems.{exact-fact}
 use Rattle.fields.proofs.Theorems.{wider-fact}
-use Rattle.entries.specs.Entry.{widths, entryOf, entryAt, values, writeNumber, written}
+use Rattle.entries.specs.Entry.{widths, entryOf, entryAt, values, readOf, writeNumber, written}
 use Rattle.entries.specs.Told.{decoded}
-use Rattle.entries.specs.Facts.{EntryAnswers, EntryTrips, entryIn}
+use Rattle.entries.specs.Facts.{EntryReads, EntryAnswers, EntryTrips, entryIn}
 use Rattle.entries.specs.declared.entry.Entry.{Entry}
 use Rattle.entries.specs.declared.entry.Decoded.{Decoded}
 use Rattle.entries.specs.declared.entry.Decoded.the-variants.{Structure, Refused}
-use Rattle.entries.proofs.EntryLaws.{values-of, write-right, accepted}
+use Rattle.entries.proofs.EntryLaws.{values-of, read-short, read-right, write-right, accepted}
+
+pub entry-reads : (s : List ℕ) → EntryReads s
+entry-reads s =
+    record {
+      refuses = λ m. (by m (decLe 8 (length s)), λ h. read-short s (h .1) ∙ ap refused (sym (h .0)));
+      right = λ vs. (so vs (decLe 8 (length s)), λ h. read-right s (h .0) ∙ ap gives (h .1));
+    }
+  where
+    by : (m : ℕ) → Dec (8 ≤ length s) → readOf s ≡ refused m → (m ≡ 25) × (length s < 8)
+    by m (yes h) e = let r = read-right s h in let z : _≡_ {A = ℕ} 0 1 = cc in absurd (omega arith)
+    by m (no h) e = let r = read-short s (omega arith) in (cc, omega arith)
+
+    so : (vs : List ℕ) → Dec (8 ≤ length s) → readOf s ≡ gives vs → (8 ≤ length s) × (values (entryAt s 0) ≡ vs)
+    so vs (yes h) e = let r = read-right s h in (h, cc)
+    so vs (no h) e = let r = read-short s (omega arith) in let z : _≡_ {A = ℕ} 0 1 = cc in absurd (omega arith)
 
 pub entry-answers : (s : List ℕ) (e : Entry) → EntryAnswers s e
 unfolding writeNumber

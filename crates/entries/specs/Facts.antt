@@ -6,10 +6,16 @@ use mathlib.Core.Path.{_≡_}
 use mathlib.Core.Logic.{_↔_}
 use mathlib.Core.List.{List}
 use lib.ListN.{length}
+use Rattle.words.specs.Answers.{refused, gives}
 use Rattle.fields.specs.Facts.{ValueTrips}
 use Rattle.fields.specs.Tables.{Fit}
-use Rattle.entries.specs.Entry.{widths, values, entryAt, writeNumber, written}
+use Rattle.entries.specs.Entry.{widths, values, entryAt, readOf, writeNumber, written}
 use Rattle.entries.specs.declared.entry.Entry.{Entry}
+
+-- Reading an entry that is handed alone: 25 exactly if the part is shorter than 8 bytes, no other refusal, and else its numbers.
+pub record EntryReads (s : List ℕ) : Type 0 where
+  pub refuses : (m : ℕ) → (readOf s ≡ refused m) ↔ ((m ≡ 25) × (length s < 8))
+  pub right : (vs : List ℕ) → (readOf s ≡ gives vs) ↔ ((8 ≤ length s) × (values (entryAt s 0) ≡ vs))
 
 -- Writing, each number exactly on its condition and none tested before it.
 pub record EntryAnswers (s : List ℕ) (e : Entry) : Type 0 where

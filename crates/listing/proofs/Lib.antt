@@ -1,3 +1,4 @@
 pub mod LineLaws
 pub mod OutputLaws
 pub mod Told
+pub mod LineFact

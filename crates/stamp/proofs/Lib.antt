@@ -1,2 +1,5 @@
 pub mod Unique
 pub mod Table
+pub mod Roads
+pub mod Worked
+pub mod Dummies

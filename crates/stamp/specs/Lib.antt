@@ -1,2 +1,4 @@
 pub mod Unique
 pub mod Table
+pub mod Roads
+pub mod Dummies

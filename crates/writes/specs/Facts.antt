@@ -46,16 +46,21 @@ pub record CapturesFact (c : Capture) (i n limit which value : ℕ) : Type 0 whe
   pub same-answer : (writeNumber c i n limit which value ≡ 0) ↔ ((y : ℕ) × (nextFor c i n limit which value ≡ gives (y ∷ [])))
   pub same-number : (m : ℕ) → m ≢ 0 → (writeNumber c i n limit which value ≡ m) ↔ (nextFor c i n limit which value ≡ refused m)
 
--- A permitted write stores its number and changes nothing else: the field reads back as the number; every other bit of the register, and
--- every other byte of the capture, is as it was; the register lies inside the instance.
-pub record Stored (c : Capture) (i n limit which value : ℕ) : Type 0 where
-  pub reads : field (placeOf which) (widthOf which) (numberAt (barLeft c i n limit which value) (limitPlace c i n limit) 8) ≡ value
+-- What a permitted write must leave: it stores its number and changes nothing else. Of any list `bar` that the BAR capture may hold
+-- afterwards: the field reads back as the number; every other bit of the register, and every other byte of the capture, is as it was; the
+-- register lies inside the instance.
+pub record StoredIn (bar : List ℕ) (c : Capture) (i n limit which value : ℕ) : Type 0 where
+  pub reads : field (placeOf which) (widthOf which) (numberAt bar (limitPlace c i n limit) 8) ≡ value
   pub bits : (k : ℕ) → (k < placeOf which) ⊎ (placeOf which + widthOf which ≤ k)
-      → bit k (numberAt (barLeft c i n limit which value) (limitPlace c i n limit) 8) ≡ bit k (numberAt (barOf c) (limitPlace c i n limit) 8)
-  pub bytes : (k : ℕ) → (k < limitPlace c i n limit) ⊎ (limitPlace c i n limit + 8 ≤ k) → getD (barLeft c i n limit which value) k 0 ≡ getD (barOf c) k 0
-  pub size : length (barLeft c i n limit which value) ≡ length (barOf c)
+      → bit k (numberAt bar (limitPlace c i n limit) 8) ≡ bit k (numberAt (barOf c) (limitPlace c i n limit) 8)
+  pub bytes : (k : ℕ) → (k < limitPlace c i n limit) ⊎ (limitPlace c i n limit + 8 ≤ k) → getD bar k 0 ≡ getD (barOf c) k 0
+  pub size : length bar ≡ length (barOf c)
   pub inside : limitPlace c i n limit + 8 ≤ startFor c 0 i + sizeFor c 0
   pub whole : startFor c 0 i + sizeFor c 0 ≤ length (barOf c)
+
+-- The same of what our write leaves.
+abbrev pub Stored : Capture → ℕ → ℕ → ℕ → ℕ → ℕ → Type 0
+Stored c i n limit which value = StoredIn (barLeft c i n limit which value) c i n limit which value
 
 -- (That the BAR capture is a list of bytes is what its type says.)
 abbrev pub WriteFact : Capture → ℕ → ℕ → ℕ → ℕ → ℕ → Type 0

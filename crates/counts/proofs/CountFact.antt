@@ -1,0 +1,50 @@
+-- The count of valid instances is the number of accepted lookups. Assumes nothing.
+use Prim.Native.Nat.{ℕ, zero, suc, _+_, _<_}
+use mathlib.Core.Path.{_≡_, refl, sym, ap, ap₂, _∙_}
+use mathlib.Core.Bool.{Bool, true, false, not}
+use mathlib.Core.List.{[], _∷_}
+use native.Mathlib.Omega.{arith}
+use borrow.Author.Tests.{lt-leb}
+use lib.Dec.{eqb}
+use Rattle.words.specs.Answers.{gives, first}
+use Rattle.words.proofs.AnswerLaws.{unless-number, first-skip, two-pass}
+use Rattle.fields.specs.Masks.{one, howMany}
+use Rattle.fields.proofs.MaskLaws.{many-le}
+use Rattle.discovery.specs.Discovery.{Capture, barOf}
+use Rattle.features.specs.Places.{bankFor, sizeFor, featureNumber, startFor, invalidAt, unsound, instanceNumber}
+use Rattle.counts.specs.Valid.{validIn, validCountIn, countOf}
+use Rattle.counts.specs.Facts.{found, CountFact}
+use Rattle.counts.proofs.CountLaws.{count-found}
+
+-- two tests that agree below n pass as many numbers
+many-same : (p q : ℕ → Bool) (n : ℕ) → ((k : ℕ) → k < n → p k ≡ q k) → howMany p n ≡ howMany q n
+unfolding howMany
+many-same p q zero h = refl
+many-same p q (suc n) h = ap₂ (λ (b : Bool) (m : ℕ). one b + m) (h n (omega arith)) (many-same p q n (λ k l. h k (omega arith)))
+
+-- where 12 is past, an instance is found exactly if it does not read all ones
+last-passes : (b : Bool) → not b ≡ eqb (first ((b, 13) ∷ [])) 0
+unfolding first
+last-passes true = refl
+last-passes false = refl
+
+module _ (c : Capture) (id : ℕ) where
+  valid-found : featureNumber c id ≡ 0 → (i : ℕ) → i < bankFor c id .instances
+      → validIn (barOf c) (bankFor c id .start) (sizeFor c id) i ≡ found c id i
+  unfolding instanceNumber unsound
+  valid-found z i l =
+      last-passes (invalidAt (barOf c) (startFor c id i)) ∙ ap (λ (n : ℕ). eqb n 0) (sym (two-pass _ z ∙ first-skip _ _ (lt-leb _ _ l)))
+
+  counted : featureNumber c id ≡ 0
+      → validCountIn (barOf c) (bankFor c id .start) (sizeFor c id) (bankFor c id .instances) ≡ howMany (found c id) (bankFor c id .instances)
+  unfolding validCountIn
+  counted z = many-same _ (found c id) (bankFor c id .instances) (valid-found z)
+
+  pub count-fact : CountFact c id
+  unfolding countOf
+  count-fact =
+      record {
+        handed-on = unless-number (featureNumber c id) _;
+        counts = λ z. count-found c id z ∙ ap (λ (n : ℕ). gives (n ∷ [])) (counted z);
+        most = many-le (found c id) (bankFor c id .instances);
+      }

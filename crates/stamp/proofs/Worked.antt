@@ -1,0 +1,75 @@
+-- The worked captures, each computed: one that discovery accepts, a write that is permitted, document 01's two lines, two domains.
+-- Assumes nothing.
+use Prim.Native.Nat.{ℕ, zero, suc}
+use mathlib.Core.Path.{_≡_, refl}
+use mathlib.Core.Bool.{Bool, true, _&&_}
+use mathlib.Core.List.{List, [], _∷_}
+use native.Mathlib.Omega.{arith}
+use borrow.Author.Tests.{ltb-true}
+use lib.Dec.{ltb}
+use Rattle.words.specs.Answers.{Answer, gives, first, orElse, earliest}
+use Rattle.words.specs.Below.{anyBelow, firstBelow, least}
+use Rattle.words.specs.Bytes.{AllBytes, numberAt}
+use Rattle.words.proofs.TestLaws.{and-both}
+use Rattle.fields.specs.Fields.{field}
+use Rattle.fields.specs.Masks.{howMany}
+use Rattle.vsec.specs.Structure.{vsecOf, vsecAt, fixedWrong}
+use Rattle.walk.specs.Walk.{identifierAt, nextAt, vsecIdAt, followed, takenAt, headerAt, walkFrom, emptyList, walkOf}
+use Rattle.entries.specs.Entry.{entryOf, entryAt}
+use Rattle.banks.specs.Faults.{bankOf, bankIn, emptyBank, repeats, meets, faultAt, faultsOf}
+use Rattle.discovery.specs.Discovery.{structureOf, barOf, misshapen, beforeWalk, birNumber, tableNumber, numberOf}
+use Rattle.features.specs.Places.{indexIn, missing, bankFor, featureNumber, invalidAt, unsound, instanceNumber, instancePart}
+use Rattle.counts.specs.Facts.{found}
+use Rattle.domains.specs.Domains as domains
+use Rattle.domains.specs.Domains.{headerOf, headerIn, unused, wrong, domainNumber}
+use Rattle.contents.specs.Registers.{present, registerAt}
+use Rattle.rapl.specs.Chains.{stepAt, climbFrom, chainOf}
+use Rattle.permits.specs.Permits as permits
+use Rattle.permits.specs.Permits.{widthOf, aLimit, unwritable, refusalOf}
+use Rattle.writes.specs.Writes.{nextContent, nextNumber, nextOf, nextFor, writeNumber, limitPlace}
+use Rattle.stamp.specs.Table.{blank, board}
+use Rattle.stamp.specs.Dummies.{twoLines, family}
+
+pub blank-accepted : numberOf (blank 4 6528) ≡ 0
+unfolding first orElse earliest anyBelow firstBelow numberAt field vsecOf vsecAt fixedWrong identifierAt nextAt vsecIdAt followed takenAt headerAt walkFrom emptyList walkOf entryOf entryAt bankOf bankIn emptyBank repeats meets faultAt faultsOf structureOf barOf misshapen beforeWalk birNumber tableNumber numberOf
+blank-accepted = refl
+
+pub board-permitted : writeNumber board 0 0 1 0 1000 ≡ 0
+unfolding first orElse earliest anyBelow firstBelow least numberAt field vsecOf vsecAt fixedWrong identifierAt nextAt vsecIdAt followed takenAt headerAt walkFrom emptyList walkOf entryOf entryAt bankOf bankIn emptyBank repeats meets faultAt faultsOf structureOf barOf misshapen beforeWalk birNumber tableNumber numberOf indexIn missing bankFor featureNumber invalidAt unsound instanceNumber instancePart headerOf headerIn unused wrong domains.missing domains.unsound domainNumber present registerAt permits.placeOf widthOf aLimit unwritable refusalOf nextContent nextNumber nextOf nextFor writeNumber
+board-permitted = refl
+
+pub board-zero : field (permits.placeOf 0) (widthOf 0) (numberAt (barOf board) (limitPlace board 0 0 1) 8) ≡ 0
+unfolding first least numberAt field vsecOf vsecAt fixedWrong identifierAt nextAt vsecIdAt followed takenAt headerAt walkFrom emptyList walkOf entryOf entryAt bankOf bankIn emptyBank structureOf barOf indexIn bankFor permits.placeOf widthOf
+board-zero = refl
+
+abbrev allBytes : List ℕ → Bool
+allBytes [] = true
+allBytes (x ∷ xs) = ltb x 256 && allBytes xs
+
+bytes-all : (xs : List ℕ) → allBytes xs ≡ true → AllBytes xs
+bytes-all [] e k = omega arith
+bytes-all (x ∷ xs) e zero = ltb-true x 256 (and-both (ltb x 256) (allBytes xs) e .0)
+bytes-all (x ∷ xs) e (suc k) = bytes-all xs (and-both (ltb x 256) (allBytes xs) e .1) k
+
+board-tested : allBytes (barOf board) ≡ true
+unfolding first numberAt field vsecOf vsecAt fixedWrong identifierAt nextAt vsecIdAt followed takenAt headerAt walkFrom emptyList walkOf structureOf barOf
+board-tested = refl
+
+pub board-bytes : AllBytes (barOf board)
+board-bytes = bytes-all (barOf board) board-tested
+
+-- the two features of document 01's two lines, each of one instance: what is counted
+abbrev pub counted : ℕ → List ℕ
+counted id = featureNumber twoLines id ∷ bankFor twoLines id .instances ∷ howMany (found twoLines id) (bankFor twoLines id .instances) ∷ []
+
+pub two-counted : (counted 0 ≡ 0 ∷ 1 ∷ 1 ∷ []) × (counted 2 ≡ 0 ∷ 1 ∷ 0 ∷ [])
+unfolding first orElse earliest anyBelow firstBelow least numberAt field vsecOf vsecAt fixedWrong identifierAt nextAt vsecIdAt followed takenAt headerAt walkFrom emptyList walkOf entryOf entryAt bankOf bankIn emptyBank repeats meets faultAt faultsOf structureOf barOf misshapen beforeWalk birNumber tableNumber numberOf indexIn missing bankFor featureNumber invalidAt unsound instanceNumber howMany
+two-counted = (refl, refl)
+
+-- the second domain is a root, or one step below one
+abbrev pub climbed : ℕ → ℕ × Answer
+climbed parent = (instanceNumber (family parent) 0 0, chainOf (instancePart (family parent) 0 0) 1)
+
+pub two-climbed : (climbed 1 ≡ (0, gives (0 ∷ []))) × (climbed 0 ≡ (0, gives (1 ∷ [])))
+unfolding first orElse earliest anyBelow firstBelow least numberAt field vsecOf vsecAt fixedWrong identifierAt nextAt vsecIdAt followed takenAt headerAt walkFrom emptyList walkOf entryOf entryAt bankOf bankIn emptyBank repeats meets faultAt faultsOf structureOf barOf misshapen beforeWalk birNumber tableNumber numberOf indexIn missing bankFor featureNumber invalidAt unsound instanceNumber instancePart headerOf headerIn unused wrong domains.missing domains.unsound domainNumber stepAt climbFrom chainOf
+two-climbed = (refl, refl)
