@@ -10,7 +10,7 @@ fn main() {
     let n = io::read_full(STDIN_FILENO, &mut input);
     // As long as the longest listing, so that none is refused.
     let mut page = [0u8; 15810];
-    let listed = listing::output::list(&input[..n], &mut page);
+    let listed = output::whole::list(&input[..n], &mut page);
     let Value::Is(many) = listed else {
         return;
     };

@@ -1,4 +1,3 @@
 pub mod LineLaws
-pub mod OutputLaws
 pub mod Told
 pub mod LineFact

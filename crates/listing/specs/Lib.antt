@@ -1,4 +1,3 @@
 pub mod Lines
 pub mod Told
-pub mod Output
 pub mod Facts

@@ -12,7 +12,7 @@ use Rattle.domains.proofs.Told as domains
 use Rattle.units.proofs.Theorems as units
 use Rattle.channel.proofs.Theorems as channel
 use Rattle.energy.proofs.Theorems as energy
-use Rattle.stamp.specs.Unique.{WordsUnique, CapturesUnique, StoresUnique, TextUnique, FieldsUnique, PlacesUnique, ChannelUnique, VsecUnique, DomainsUnique, EntriesUnique, UnitsUnique, BanksUnique, EnergyUnique, WalkUnique, WindowsUnique, ContentsUnique, LimitsUnique, DiscoveryUnique, PermitsUnique, FeaturesUnique, RaplUnique, CountsUnique, RegistersUnique, WritesUnique, ListingUnique}
+use Rattle.stamp.specs.Unique.{WordsUnique, CapturesUnique, StoresUnique, TextUnique, FieldsUnique, PlacesUnique, ChannelUnique, VsecUnique, DomainsUnique, EntriesUnique, UnitsUnique, BanksUnique, EnergyUnique, WalkUnique, WindowsUnique, ContentsUnique, LimitsUnique, DiscoveryUnique, PermitsUnique, FeaturesUnique, RaplUnique, CountsUnique, RegistersUnique, WritesUnique, ListingUnique, OutputUnique}
 
 pub words-unique : WordsUnique
 words-unique =
@@ -224,6 +224,11 @@ listing-unique =
       listing-of = λ κs a x y s t p q. listing.listed-once x y (p ∙ sym q);
       bar-in = λ κs a x y s t p q. p ∙ sym q;
       line-of = λ κs a x y s t p q. listing.said-once x y (p ∙ sym q);
+    }
+
+pub output-unique : OutputUnique
+output-unique =
+    record {
       list = λ κs a x y s t p q. places.valued-once x y (p .0 ∙ sym (q .0));
       list-kept = λ κs a x y s t p q. p .1 ∙ sym (q .1);
     }

@@ -85,7 +85,7 @@ use Rattle.writes.proofs.write.write.Reads as writes-write
 use Rattle.listing.proofs.lines.listing_of.Reads as listing-listing-of
 use Rattle.listing.proofs.lines.bar_in.Reads as listing-bar-in
 use Rattle.listing.proofs.lines.line_of.Reads as listing-line-of
-use Rattle.listing.proofs.output.list.Reads as listing-list
+use Rattle.output.proofs.whole.list.Reads as output-list
 
 abbrev pub Fixes : {L : Type 0} {A R E B : L → Type 0} → ((κs : L) → R κs → E κs → B κs) → ((κs : L) → A κs → R κs → E κs → Type 0) → Type 0
 Fixes {L} {A} {R} {E} out P = (κs : L) (a : A κs) (x y : R κs) (s t : E κs) → P κs a x s → P κs a y t → out κs x s ≡ out κs y t
@@ -229,5 +229,7 @@ pub record ListingUnique : Type 0 where
   pub listing-of : Only listing-listing-of.Post
   pub bar-in : Fixes (λ κs x s. now x) listing-bar-in.Post
   pub line-of : Only listing-line-of.Post
-  pub list : Only listing-list.Post
-  pub list-kept : Fixes (λ κs x s. now (s .1 .0)) listing-list.Post
+
+pub record OutputUnique : Type 0 where
+  pub list : Only output-list.Post
+  pub list-kept : Fixes (λ κs x s. now (s .1 .0)) output-list.Post

@@ -1,17 +1,14 @@
--- `listing::output::lines` meets its contract. The invariant: the lines of the entries below k stand on the page. The measure is what is
+-- `output::whole::lines` meets its contract. The invariant: the lines of the entries below k stand on the page. The measure is what is
 -- left of the entries. Assumes nothing.
 use Prim.Native.Nat.{ℕ, _-_, _≤_}
 use mathlib.Core.Path.{_≡_, ap, subst, _∙_}
 use native.Mathlib.Omega.{arith}
 use lib.ListN.{length}
 use Rattle.text.proofs.PageLaws.{Stands, stands-start, length-over}
-use Rattle.listing.specs.Output.{linesBelow}
-use Rattle.listing.proofs.OutputLaws.{Listed, listed-none, listed-room, listed-next}
-use Rattle.listing.proofs.output.lines.Statement.{statement}
-use Rattle.listing.proofs.output.lines.Tie as tie
-use Rattle.listing.proofs.output.lines.Reads as reads
-use Rattle.listing.proofs.output.lines.Lts as lts
-use Rattle.listing.proofs.output.entry.Reads as entry-reads
+use Rattle.output.specs.Output.{linesBelow}
+use Rattle.output.proofs.OutputLaws.{Listed, listed-none, listed-room, listed-next}
+use Rattle.output.proofs.whole.lines.Statement.{statement}
+use Rattle.output.proofs.whole.lines.Tie as tie
 
 abbrev Inv-loop : tie.InvT-loop
 Inv-loop page₀ bar table entries at₀ k₀ page at k = (k ≤ entries) × Listed page₀ bar table k page at
@@ -19,28 +16,23 @@ Inv-loop page₀ bar table entries at₀ k₀ page at k = (k ≤ entries) × Lis
 abbrev μ-loop : tie.MeasureT-loop
 μ-loop page₀ bar table entries at₀ k₀ page at k = entries - k
 
--- src/output.rt:58:5
 loop-holds : tie.Need-loop-holds Inv-loop μ-loop
 loop-holds c =
     let s = c .before .before in
     (omega arith, listed-none (s .args .page .now) (s .args .bar .now) (s .args .table) (s .fits .table .fits) (s .pre))
 
--- src/output.rt:59:9
 entry-requires : tie.Need-entry-requires Inv-loop μ-loop
 entry-requires c κs =
     let l = c .before .before .loop in
     let s = c .before .before .before .before .before in
     listed-room (s .args .page .now) (s .args .bar .now) (s .args .table) (s .fits .table .fits) (s .pre) (l .k) (omega arith) (l .inv .1)
 
--- src/output.rt:60:9
 add-k : tie.Need-add-k Inv-loop μ-loop
 add-k c = omega arith
 
--- src/output.rt:58:5
 loop-less : tie.Need-loop-less Inv-loop μ-loop
 loop-less c = omega arith
 
--- src/output.rt:58:5
 loop-again : tie.Need-loop-again Inv-loop μ-loop
 loop-again c =
     let l = c .before .before .before .before .before .loop in
@@ -49,11 +41,9 @@ loop-again c =
       listed-next (s .args .page .now) (s .args .bar .now) (s .args .table) (s .fits .table .fits) (s .pre) (l .k) (omega arith) (l .inv .1) (c .before .before .entry .ensures),
     )
 
--- src/output.rt:51:1
 same-length : tie.Need-same-length Inv-loop μ-loop
 same-length c = ap length (c .before .loop .inv .1 .stands .page) ∙ length-over _ _ _
 
--- src/output.rt:51:1
 returns : tie.Need-returns Inv-loop μ-loop
 returns c =
     let l = c .before .loop in

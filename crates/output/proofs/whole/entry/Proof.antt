@@ -1,51 +1,40 @@
--- `listing::output::entry` meets its contract: nothing, or the line of the feature that the entry is. Assumes nothing.
+-- `output::whole::entry` meets its contract: nothing, or the line of the feature that the entry is. Assumes nothing.
 use Prim.Native.Nat.{ℕ, _+_, _≤_}
 use mathlib.Core.Path.{_≡_, sym, ap, subst, _∙_}
 use mathlib.Core.List.{List}
 use lib.ListN.{length}
 use Rattle.text.specs.Page.{over}
-use Rattle.listing.specs.Output.{lineText}
+use Rattle.output.specs.Output.{lineText}
 use Rattle.listing.specs.Told.{said}
-use Rattle.listing.proofs.OutputLaws.{no-line}
+use Rattle.output.proofs.OutputLaws.{no-line}
 use borrow.Author.Needs.{needs}
-use Rattle.listing.proofs.output.entry.Statement.{statement}
-use Rattle.listing.proofs.output.entry.Tie as tie
-use Rattle.listing.proofs.output.entry.Reads as reads
-use Rattle.listing.proofs.output.entry.Lts as lts
-use Rattle.listing.proofs.lines.line_of.Reads as line-of-reads
-use Rattle.listing.proofs.output.feature.Reads as feature-reads
+use Rattle.output.proofs.whole.entry.Statement.{statement}
+use Rattle.output.proofs.whole.entry.Tie as tie
 
--- src/output.rt:44:25
 line-of-requires : tie.Need-line-of-requires
 line-of-requires c κs = search needs
 
--- src/output.rt:44:20
 enum-known-f : tie.Need-enum-known-f
 enum-known-f c = search needs
 
--- src/output.rt:45:9
 enum-told : tie.Need-enum-told
 enum-told c = search needs
 
--- src/output.rt:45:9
 returns : tie.Need-returns
 returns c =
     let d = c .before .before in
     let s = d .before .before .before in
     no-line (s .args .page .now) (s .args .at) (sym (ap said (c .enum-told .given .1)) ∙ d .line-of .ensures) (s .pre)
 
--- src/output.rt:47:5
 feature-requires : tie.Need-feature-requires
 feature-requires c κs =
     let d = c .before .before .before .before in
     let s = d .before .before .before in
     subst (λ (vs : List ℕ). s .args .at + length (lineText vs) ≤ length (s .args .page .now)) (sym (d .line-of .ensures) ∙ ap said (c .before .before .f .given .1)) (s .pre)
 
--- src/output.rt:39:1
 same-length : tie.Need-same-length
 same-length c = search needs
 
--- src/output.rt:39:1
 returns-2 : tie.Need-returns-2
 returns-2 c =
     let d = c .before .before .before .before .before .before .before in

@@ -1,41 +1,31 @@
--- `listing::output::refusal` meets its contract: the word, the number and a line feed, one after the other. Assumes nothing.
+-- `output::whole::refusal` meets its contract: the word, the number and a line feed, one after the other. Assumes nothing.
 use Prim.Native.Nat.{_+_, _≤_}
 use mathlib.Core.List.{_++_}
 use native.Mathlib.Omega.{arith}
 use lib.ListN.{length}
 use Rattle.text.specs.Numerals.{numeralOf}
 use Rattle.text.proofs.PageLaws.{room-first, stands-none, stands-on, stands-both, stands-start}
-use Rattle.listing.specs.Output.{refusedWord, lineFeed, refusedText}
-use Rattle.listing.proofs.OutputLaws.{refused-short}
+use Rattle.output.specs.Output.{refusedWord, lineFeed, refusedText}
+use Rattle.output.proofs.OutputLaws.{refused-short}
 use borrow.Author.Needs.{needs}
-use Rattle.listing.proofs.output.refusal.Statement.{statement}
-use Rattle.listing.proofs.output.refusal.Tie as tie
-use Rattle.listing.proofs.output.refusal.Reads as reads
-use Rattle.listing.proofs.output.refusal.Lts as lts
-use Rattle.text.proofs.numerals.labelled.Reads as labelled-reads
-use Rattle.text.proofs.page.put.Reads as put-reads
+use Rattle.output.proofs.whole.refusal.Statement.{statement}
+use Rattle.output.proofs.whole.refusal.Tie as tie
 
--- src/output.rt:61:31
 slice-aggregate-labelled : tie.Need-slice-aggregate-labelled
 slice-aggregate-labelled c = search needs
 
--- src/output.rt:61:9
 labelled-requires : tie.Need-labelled-requires
 labelled-requires c κs = search needs
 
--- src/output.rt:62:18
 slice-aggregate-put : tie.Need-slice-aggregate-put
 slice-aggregate-put c = search needs
 
--- src/output.rt:62:5
 put-requires : tie.Need-put-requires
 put-requires c κs = search needs
 
--- src/output.rt:56:1
 same-length : tie.Need-same-length
 same-length c = search needs
 
--- src/output.rt:56:1
 returns : tie.Need-returns
 returns c =
     let a = c .before .before .before .before .before .before .before in

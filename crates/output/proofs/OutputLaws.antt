@@ -21,9 +21,9 @@ use Rattle.text.specs.Page.{over, after, overBoth, afterBoth}
 use Rattle.text.proofs.PageLaws.{Stands, length-over, room-first, stands-none, stands-on, stands-next, stands-both}
 use Rattle.text.specs.Numerals.{numeralOf}
 use Rattle.text.proofs.NumeralFact.{numeral-fact}
 use Rattle.listing.specs.Lines.{Said, listingOf, lineOf}
-use Rattle.listing.specs.Output.{lineText, linesBelow, refusedText, saidText, textOf, longest, listNumber, listOf, pageLeft}
+use Rattle.output.specs.Output.{lineText, linesBelow, refusedText, saidText, textOf, longest, listNumber, listOf, pageLeft}
 use Rattle.listing.proofs.LineLaws.{line-none, line-there}
 
 -- words put at a place, as a call answers it
 abbrev Both : List ℕ → ℕ → List ℕ → List ℕ → ℕ → List ℕ → Type 0
@@ -89,7 +89,7 @@ numbers-short id i v z s a b c d e =
       few s 10 (omega arith) (omega arith) (omega arith),
     ))
 
-line-short : (s : List ℕ) (t k : ℕ) → t < 2 ^ 32 → length (lineText (lineOf s t k)) ≤ 62
+pub line-short : (s : List ℕ) (t k : ℕ) → t < 2 ^ 32 → length (lineText (lineOf s t k)) ≤ 62
 unfolding lineText
 line-short s t k h = by (emptyBank (bankIn s t k)) refl
   where
@@ -107,7 +107,7 @@ refused-short n h = simp length-append (omega (arith, few n 3 (omega arith) (ome
 
 -- ---- one entry more
 
-lines-next : (s : List ℕ) (t k : ℕ) → linesBelow s t (k + 1) ≡ linesBelow s t k ++ lineText (lineOf s t k)
+pub lines-next : (s : List ℕ) (t k : ℕ) → linesBelow s t (k + 1) ≡ linesBelow s t k ++ lineText (lineOf s t k)
 unfolding linesBelow
 lines-next s t k = ap (linesBelow s t) (add-one k)
 

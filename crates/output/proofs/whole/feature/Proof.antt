@@ -1,68 +1,50 @@
--- `listing::output::feature` meets its contract: its calls put the line's words and numbers one after the other. Assumes nothing.
+-- `output::whole::feature` meets its contract: its calls put the line's words and numbers one after the other. Assumes nothing.
 use Rattle.text.specs.Numerals.{numeralOf}
-use Rattle.listing.specs.Output.{featureWord, instancesWord, validWord, sizeWord, atWord, lineFeed, lineText}
-use Rattle.listing.proofs.OutputLaws.{five-stand}
+use Rattle.output.specs.Output.{featureWord, instancesWord, validWord, sizeWord, atWord, lineFeed, lineText}
+use Rattle.output.proofs.OutputLaws.{five-stand}
 use borrow.Author.Needs.{needs}
-use Rattle.listing.proofs.output.feature.Statement.{statement}
-use Rattle.listing.proofs.output.feature.Tie as tie
-use Rattle.listing.proofs.output.feature.Reads as reads
-use Rattle.listing.proofs.output.feature.Lts as lts
-use Rattle.text.proofs.numerals.labelled.Reads as labelled-reads
-use Rattle.text.proofs.page.put.Reads as put-reads
+use Rattle.output.proofs.whole.feature.Statement.{statement}
+use Rattle.output.proofs.whole.feature.Tie as tie
 
--- src/output.rt:29:32
 slice-aggregate-labelled : tie.Need-slice-aggregate-labelled
 slice-aggregate-labelled c = search needs
 
--- src/output.rt:29:9
 labelled-requires : tie.Need-labelled-requires
 labelled-requires c κs = search needs
 
--- src/output.rt:30:31
 slice-aggregate-labelled-2 : tie.Need-slice-aggregate-labelled-2
 slice-aggregate-labelled-2 c = search needs
 
--- src/output.rt:30:9
 labelled-requires-2 : tie.Need-labelled-requires-2
 labelled-requires-2 c κs = search needs
 
--- src/output.rt:31:31
 slice-aggregate-labelled-3 : tie.Need-slice-aggregate-labelled-3
 slice-aggregate-labelled-3 c = search needs
 
--- src/output.rt:31:9
 labelled-requires-3 : tie.Need-labelled-requires-3
 labelled-requires-3 c κs = search needs
 
--- src/output.rt:32:31
 slice-aggregate-labelled-4 : tie.Need-slice-aggregate-labelled-4
 slice-aggregate-labelled-4 c = search needs
 
--- src/output.rt:32:9
 labelled-requires-4 : tie.Need-labelled-requires-4
 labelled-requires-4 c κs = search needs
 
--- src/output.rt:33:31
 slice-aggregate-labelled-5 : tie.Need-slice-aggregate-labelled-5
 slice-aggregate-labelled-5 c = search needs
 
--- src/output.rt:33:9
 labelled-requires-5 : tie.Need-labelled-requires-5
 labelled-requires-5 c κs = search needs
 
--- src/output.rt:34:18
 slice-aggregate-put : tie.Need-slice-aggregate-put
 slice-aggregate-put c = search needs
 
--- src/output.rt:34:5
 put-requires : tie.Need-put-requires
 put-requires c κs = search needs
 
--- src/output.rt:24:1
 same-length : tie.Need-same-length
 same-length c = search needs
 
--- src/output.rt:24:1
 returns : tie.Need-returns
 unfolding lineText
 returns c =
