@@ -14,6 +14,10 @@ unfolding numberAt
 number-lt xs b at zero = omega arith
 number-lt xs b at (suc n) = rw pow-suc (digits-lt (number-lt xs b (suc at) n) (b at))
 
+-- the same of a number that was read
+pub read-lt : (xs : List ℕ) → AllBytes xs → (at n : ℕ) {v : ℕ} → v ≡ numberAt xs at n → v < 256 ^ n
+read-lt xs b at n e = rw e (number-lt xs b at n)
+
 pub number-past : (xs : List ℕ) (at n : ℕ) → length xs ≤ at → numberAt xs at n ≡ 0
 unfolding numberAt
 number-past xs at zero h = refl
