@@ -19,7 +19,7 @@ cast-result : tie.Need-cast-result
 cast-result c = omega (arith, narrow _ _ _ (c .field .ensures))
 
 returns : tie.Need-returns
-returns c = search needs
+returns c = c .field .ensures
 
 pub count-in-spec : {M : Type 1} → statement M
 count-in-spec = tie.close (tie.spec field-requires cast-result returns)

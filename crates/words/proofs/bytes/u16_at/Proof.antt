@@ -12,7 +12,7 @@ cast-result : tie.Need-cast-result
 cast-result c = omega (arith, read-lt (c .before .before .args .s .now) (λ k. c .before .shared-slice-known .given k .fits) _ _ (c .number-at .ensures))
 
 returns : tie.Need-returns
-returns c = search needs
+returns c = c .number-at .ensures
 
 pub u16-at-spec : {M : Type 1} → statement M
 u16-at-spec = tie.close (tie.spec number-at-requires cast-result returns)
