@@ -99,5 +99,9 @@ pub fn domain_in(s: &[u8], n: u64) -> Known
     let Known::Domain(t) = typed else {
         return typed;
     };
-    sound(t)
+    let kept = sound(t);
+    let Known::Domain(d) = kept else {
+        return kept;
+    };
+    Known::Domain(d)
 }

@@ -1,12 +1,9 @@
 -- The number of n bytes at a place: its size, its bytes, its parts. Assumes nothing.
 use Prim.Native.Nat.{ℕ, zero, suc, _+_, _-_, _*_, _/_, _%_, _^_, _≤_, _<_}
-use mathlib.Core.Path.{_≡_, refl, sym, ap, ap₂, _∙_, subst}
-use mathlib.Core.Bool.{Bool, true, false}
+use mathlib.Core.Path.{_≡_, refl, ap, ap₂, _∙_}
 use mathlib.Core.List.{List}
-use borrow.Author.Tests.{leb-true, leb-false}
 use lib.Arith.{digits-lt, digits-div, digits-mod}
-use lib.Dec.{leb}
-use lib.ListN.{length, getD, take, drop, length-take, List·getD-eq-default}
+use lib.ListN.{length, getD, take, drop, List·getD-eq-default}
 use lib.Seq.{getD-take, getD-drop}
 use native.Mathlib.Nat.{not-suc-le-zero, one-le-pow, pow-suc, pow-succ', zero-add, add-zero, suc-add, add-suc, add-assoc, add-mul, mul-assoc, mul-one, div-one, div-div-eq-div-mul, zero-lt-suc, lt-of-lt-of-le, pow-le-pow-right}
 use native.Mathlib.Omega.{arith}
@@ -16,6 +13,10 @@ pub number-lt : (xs : List ℕ) → AllBytes xs → (at n : ℕ) → numberAt xs
 unfolding numberAt
 number-lt xs b at zero = omega arith
 number-lt xs b at (suc n) = rw pow-suc (digits-lt (number-lt xs b (suc at) n) (b at))
+
+-- the same of a number that was read
+pub read-lt : (xs : List ℕ) → AllBytes xs → (at n : ℕ) {v : ℕ} → v ≡ numberAt xs at n → v < 256 ^ n
+read-lt xs b at n e = rw e (number-lt xs b at n)
 
 pub number-past : (xs : List ℕ) (at n : ℕ) → length xs ≤ at → numberAt xs at n ≡ 0
 unfolding numberAt
@@ -68,13 +69,6 @@ unfolding numberAt
 number-part xs a len k zero h = refl
 number-part xs a len k (suc n) h =
     ap₂ (λ (x b : ℕ). x * 256 + b) (number-part xs a len (suc k) n (omega arith) ∙ ap (λ (j : ℕ). numberAt xs j n) (add-suc a k)) (getD-take len (drop a xs) k 0 (omega arith) ∙ getD-drop a xs k 0)
-
-pub part-bytes : (xs : List ℕ) → AllBytes xs → (a len : ℕ) → AllBytes (take len (drop a xs))
-part-bytes xs b a len k = by (leb len k) refl
-  where
-    by : (t : Bool) → leb len k ≡ t → getD (take len (drop a xs)) k 0 < 256
-    by true e = let h = leb-true len k e in let z : getD (take len (drop a xs)) k 0 ≡ 0 = List·getD-eq-default (take len (drop a xs)) 0 (omega (arith, length-take len (drop a xs), h)) in omega arith
-    by false e = subst (λ (x : ℕ). x < 256) (sym (getD-take len (drop a xs) k 0 (leb-false len k e) ∙ getD-drop a xs k 0)) (b (a + k))
 
 -- ---- all ones
 

@@ -1,18 +1,25 @@
--- `channel::record::count_in` meets its contract: a field of 32 bits fits 32 bits. Assumes nothing.
+-- `channel::record::count_in` meets its contract: what is read as a field of 32 bits fits 32 bits. Assumes nothing.
+use Prim.Native.Nat.{ℕ, _^_, _<_}
+use mathlib.Core.Path.{_≡_}
 use borrow.Author.Needs.{needs}
 use native.Mathlib.Omega.{arith}
+use Rattle.fields.specs.Fields.{field}
 use Rattle.fields.proofs.FieldLaws.{field-lt}
 use Rattle.channel.proofs.record.count_in.Statement.{statement}
 use Rattle.channel.proofs.record.count_in.Tie as tie
+
+-- what is read as a field is below 2 to its width
+narrow : (p w x : ℕ) {v : ℕ} → v ≡ field p w x → v < 2 ^ w
+narrow p w x e = rw e (field-lt p w x)
 
 field-requires : tie.Need-field-requires
 field-requires c κs = search needs
 
 cast-result : tie.Need-cast-result
-cast-result c = omega (arith, c .field .ensures, field-lt 0 32 (c .before .args .status))
+cast-result c = omega (arith, narrow _ _ _ (c .field .ensures))
 
 returns : tie.Need-returns
-returns c = search needs
+returns c = c .field .ensures
 
 pub count-in-spec : {M : Type 1} → statement M
 count-in-spec = tie.close (tie.spec field-requires cast-result returns)

@@ -1,5 +1,6 @@
 -- `domains::headers::domain_in` meets its contract: a stage that refuses decides. Assumes nothing.
-use mathlib.Core.Path.{sym, ap, _∙_}
+use mathlib.Core.Path.{_≡_, sym, ap, _∙_}
+use Rattle.domains.specs.Domains.{domainOf}
 use Rattle.domains.specs.Told.{told}
 use Rattle.domains.proofs.DomainLaws.{block-stops, used-stops, sound-last}
 use borrow.Author.Needs.{needs}
@@ -38,12 +39,25 @@ returns-2 c =
 sound-requires : tie.Need-sound-requires
 sound-requires c κs = search needs
 
-returns-3 : tie.Need-returns-3
-returns-3 c =
+-- what the last stage says is the answer
+last : (c : tie.After-sound) → let a = c .before .before .before .before .before .before .before .before .before .before .args in told (c .sound .result) ≡ domainOf (a .s .now) (a .n)
+last c =
     let u = c .before .before in
     let b = u .before .before .before .before in
     c .sound .ensures
     ∙ sound-last _ _ _ (sym (b .before .before .block .ensures) ∙ ap told (b .inside .given .1)) _ (sym (u .before .before .used .ensures) ∙ ap told (u .typed .given .1))
+
+enum-known-kept : tie.Need-enum-known-kept
+enum-known-kept c = search needs
+
+enum-told-3 : tie.Need-enum-told-3
+enum-told-3 c = search needs
+
+returns-3 : tie.Need-returns-3
+returns-3 c = last (c .before .before)
+
+returns-4 : tie.Need-returns-4
+returns-4 c = sym (ap told (c .before .kept .given .1)) ∙ last (c .before .before .before)
 
 pub domain-in-spec : {M : Type 1} → statement M
 domain-in-spec =
@@ -58,4 +72,7 @@ domain-in-spec =
     enum-told-2
     returns-2
     sound-requires
-    returns-3)
+    enum-known-kept
+    enum-told-3
+    returns-3
+    returns-4)
