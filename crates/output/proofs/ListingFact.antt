@@ -20,7 +20,7 @@ use Rattle.discovery.specs.Discovery.{Capture, birOf, barOf, tableOf, entriesOf
 use Rattle.discovery.proofs.DiscoveryLaws.{structure-narrow, table-bound, bar-named}
 use Rattle.discovery.proofs.DiscoveryFact.{discovery-small}
 use Rattle.listing.specs.Lines.{Said, unreadable, answers, captureIn, listingOf, barIn, lineOf}
-use Rattle.output.specs.Output.{featureWord, lineFeed, lineText, linesBelow, refusedText, unreadableText, saidText, textOf, longest}
+use Rattle.output.specs.Output.{lineRuns, lineText, linesBelow, refusedText, unreadableText, saidText, textOf, longest}
 use Rattle.output.specs.Facts.{feeds, aFeature, LinesFact, ListingFact}
 use Rattle.listing.proofs.LineLaws.{says-unreadable, says-answer, bar-there, line-none, line-there}
 use Rattle.output.proofs.OutputLaws.{lines-next, line-short, refused-short}
@@ -45,14 +45,14 @@ digits-no-feed b zero n = refl
 digits-no-feed b (suc k) n = ap₂ (λ (t : Bool) (m : ℕ). one t + m) (glyph-no-feed (n / b ^ k % b)) (digits-no-feed b k n)
 
 line-feeds : (id : ℕ) (vs : List ℕ) → feeds (lineText (id ∷ vs)) ≡ 1
-unfolding lineText
+unfolding lineRuns
 line-feeds id vs = simp (feeds-append, digits-no-feed)
 
 -- ---- the lines of a table
 
 module _ (s : List ℕ) (t : ℕ) where
   empty-adds : (k : ℕ) → aFeature s t k ≡ false → linesBelow s t (k + 1) ≡ linesBelow s t k
-  unfolding lineText
+  unfolding lineRuns
   empty-adds k e =
       lines-next s t k
       ∙ ap (λ (vs : List ℕ). linesBelow s t k ++ lineText vs) (line-none s t k refl (not-false (emptyBank (bankIn s t k)) e))
@@ -60,7 +60,7 @@ module _ (s : List ℕ) (t : ℕ) where
 
   -- how many lines one entry adds
   entry-feeds : (k : ℕ) (b : Bool) → emptyBank (bankIn s t k) ≡ b → feeds (lineText (lineOf s t k)) ≡ one (not b)
-  unfolding lineText
+  unfolding lineRuns
   entry-feeds k true e = ap (λ (vs : List ℕ). feeds (lineText vs)) (line-none s t k refl e)
   entry-feeds k false e = ap (λ (vs : List ℕ). feeds (lineText vs)) (line-there s t k refl e) ∙ line-feeds (bankIn s t k .id) (_ ∷ _ ∷ _ ∷ _ ∷ [])
 

@@ -6,6 +6,7 @@ use mathlib.Core.List.{List, [], _∷_, _++_, append-nil}
 use borrow.Author.Tests.{lt-ltb, le-ltb}
 use lib.Dec.{eqb}
 use lib.ListN.{length, length-append}
+use native.Mathlib.Nat.{zero-add}
 use native.Mathlib.Numerals.{add-one}
 use native.Mathlib.Omega.{arith}
 use Rattle.words.specs.Answers.{refused, gives, unless}
@@ -17,51 +18,22 @@ use Rattle.entries.specs.Entry.{entryOf, entryAt}
 use Rattle.banks.specs.Faults.{bankOf, bankIn, emptyBank}
 use Rattle.banks.proofs.FaultLaws.{Bounded, bank-bounded}
 use Rattle.counts.specs.Valid.{validIn, validCountIn}
-use Rattle.text.specs.Page.{over, after, overBoth, afterBoth}
-use Rattle.text.proofs.PageLaws.{Stands, length-over, room-first, stands-none, stands-on, stands-next, stands-both}
+use Rattle.text.specs.Page.{over, overAll, afterAll, joined}
+use Rattle.text.proofs.PageLaws.{length-over, runs-fact, Stands, stands-none, stands-next}
 use Rattle.text.specs.Numerals.{numeralOf}
 use Rattle.text.proofs.NumeralFact.{numeral-fact}
 use Rattle.listing.specs.Lines.{Said, listingOf, lineOf}
-use Rattle.output.specs.Output.{lineText, linesBelow, refusedText, saidText, textOf, longest, listNumber, listOf, pageLeft}
+use Rattle.output.specs.Output.{lineRuns, lineText, linesBelow, refusedText, saidText, textOf, longest, listNumber, listOf, pageLeft}
 use Rattle.listing.proofs.LineLaws.{line-none, line-there}
-
--- words put at a place, as a call answers it
-abbrev Both : List ℕ → ℕ → List ℕ → List ℕ → ℕ → List ℕ → Type 0
-Both xs at ys zs r rs = (r ≡ afterBoth xs at ys zs) × (rs ≡ overBoth xs at ys zs)
-
--- five words, each with a number after it, and what ends the line
-pub five-stand : (xs : List ℕ) (at : ℕ) (u m v n w o x p y q z : List ℕ) → at + length (u ++ m ++ v ++ n ++ w ++ o ++ x ++ p ++ y ++ q ++ z) ≤ length xs
-    → {a b c d e r : ℕ} {js bs cs ds es rs : List ℕ} → Both xs at u m a js → Both js a v n b bs → Both bs b w o c cs → Both cs c x p d ds → Both ds d y q e es
-    → (r ≡ after es e z) × (rs ≡ over es e z) → Stands xs at (u ++ m ++ v ++ n ++ w ++ o ++ x ++ p ++ y ++ q ++ z) rs r
-five-stand xs at u m v n w o x p y q z room f g h i j k =
-    let t₁ : List ℕ = u ++ m in
-    let t₂ : List ℕ = t₁ ++ v ++ n in
-    let t₃ : List ℕ = t₂ ++ w ++ o in
-    let t₄ : List ℕ = t₃ ++ x ++ p in
-    let t₅ : List ℕ = t₄ ++ y ++ q in
-    let shorter : (ys zs : List ℕ) → at + length (ys ++ zs) ≤ length xs → at + length ys ≤ length xs = room-first (length xs) at in
-    let r₅ : at + length t₅ ≤ length xs = shorter t₅ z room in
-    let r₄ : at + length t₄ ≤ length xs = shorter t₄ y (shorter (t₄ ++ y) q r₅) in
-    let r₃ : at + length t₃ ≤ length xs = shorter t₃ x (shorter (t₃ ++ x) p r₄) in
-    let r₂ : at + length t₂ ≤ length xs = shorter t₂ w (shorter (t₂ ++ w) o r₃) in
-    let r₁ : at + length t₁ ≤ length xs = shorter t₁ v (shorter (t₁ ++ v) n r₂) in
-    stands-on xs at
-    (stands-both xs at
-    (stands-both xs at (stands-both xs at (stands-both xs at (stands-both xs at (stands-none xs at (omega arith)) u m r₁ f) v n r₂ g) w o r₃ h) x p r₄ i)
-    y q r₅ j)
-    z room k
-
--- ---- the line of an entry
 
 -- what a call puts at a place that is known to have room
 abbrev PutAt : List ℕ → ℕ → List ℕ → ℕ → List ℕ → Type 0
 PutAt xs at ys r rs = (r ≡ at + length ys) × (rs ≡ over xs at ys)
 
--- an entry with no line
-pub no-line : (xs : List ℕ) (at : ℕ) {vs : List ℕ} → [] ≡ vs → at + length (lineText vs) ≤ length xs → PutAt xs at (lineText vs) at xs
-unfolding lineText
-no-line xs at e h =
-    subst (λ (vs : List ℕ). PutAt xs at (lineText vs) at xs) e (let so = stands-none xs at (omega arith) in (so .place, so .page))
+-- runs of words where there is room for all
+pub all-put : (xs : List ℕ) (at : ℕ) (yss : List (List ℕ)) {r : ℕ} {rs : List ℕ} → at + length (joined yss) ≤ length xs
+    → (r ≡ afterAll xs at yss) × (rs ≡ overAll xs at yss) → PutAt xs at (joined yss) r rs
+all-put xs at yss h q = let f = runs-fact xs at yss in (q .0 ∙ f .place h, q .1 ∙ f .words h)
 
 -- ---- how long a line can be
 
@@ -77,7 +49,7 @@ few : (n k : ℕ) → 1 ≤ k → n < 10 ^ k → n < 2 ^ 64 → length (numeralO
 few n k h l w = numeral-fact 10 n (omega arith) (omega arith) w .at-most k h l
 
 numbers-short : (id i v z s : ℕ) → id < 256 → i < 256 → v < 256 → z < 262144 → s < 2 ^ 33 → length (lineText (id ∷ i ∷ v ∷ z ∷ s ∷ [])) ≤ 62
-unfolding lineText
+unfolding lineRuns
 numbers-short id i v z s a b c d e =
     simp length-append
     (omega (
@@ -90,7 +62,7 @@ numbers-short id i v z s a b c d e =
     ))
 
 pub line-short : (s : List ℕ) (t k : ℕ) → t < 2 ^ 32 → length (lineText (lineOf s t k)) ≤ 62
-unfolding lineText
+unfolding lineRuns
 line-short s t k h = by (emptyBank (bankIn s t k)) refl
   where
     by : (e : Bool) → emptyBank (bankIn s t k) ≡ e → length (lineText (lineOf s t k)) ≤ 62
@@ -122,18 +94,25 @@ module _ (xs s : List ℕ) (t : ℕ) (small : t < 2 ^ 32) (room : longest ≤ le
   listed-none = record { stands = stands-none xs 0 (omega arith); short = omega arith }
 
   module _ (k : ℕ) (more : k < 255) {ps : List ℕ} {at : ℕ} (so : Listed xs s t k ps at) where
-    pub listed-room : at + length (lineText (lineOf s t k)) ≤ length ps
+    listed-room : at + length (lineText (lineOf s t k)) ≤ length ps
     listed-room = omega (arith, so .short, line-short s t k small, ap length (so .stands .page) ∙ length-over xs 0 (linesBelow s t k))
 
     next-room : 0 + length (linesBelow s t k ++ lineText (lineOf s t k)) ≤ length xs
     next-room = omega (arith, so .stands .place, so .short, line-short s t k small, length-append (linesBelow s t k) (lineText (lineOf s t k)))
 
-    pub listed-next : {r : ℕ} {rs : List ℕ} → PutAt ps at (lineText (lineOf s t k)) r rs → Listed xs s t (k + 1) rs r
-    listed-next {r} {rs} q =
+    pub listed-next : {r : ℕ} {rs : List ℕ} → (r ≡ afterAll ps at (lineRuns (lineOf s t k))) × (rs ≡ overAll ps at (lineRuns (lineOf s t k)))
+        → Listed xs s t (k + 1) rs r
+    listed-next {r} {rs} calls =
+        let q : PutAt ps at (lineText (lineOf s t k)) r rs = all-put ps at (lineRuns (lineOf s t k)) listed-room calls in
         record {
           stands = subst (λ (ys : List ℕ). Stands xs 0 ys rs r) (sym (lines-next s t k)) (stands-next xs 0 (so .stands) (lineText (lineOf s t k)) next-room q);
           short = omega (arith, q .0, so .short, line-short s t k small);
         }
+
+-- a text put at the page's start
+pub text-put : (xs : List ℕ) (yss : List (List ℕ)) {r : ℕ} {rs : List ℕ} → length (joined yss) ≤ length xs
+    → (r ≡ afterAll xs 0 yss) × (rs ≡ overAll xs 0 yss) → (r ≡ length (joined yss)) × (rs ≡ over xs 0 (joined yss))
+text-put xs yss h q = let p = all-put xs 0 yss (omega arith) q in (p .0 ∙ zero-add (length (joined yss)), p .1)
 
 -- ---- the whole listing
 

@@ -1,8 +1,8 @@
 -- The whole listing as bytes (document 01, "Bench cases"): `unreadable`, `refused` and the number, or a line for each entry that is not empty,
 -- in table order. Numbers are decimal, each line ends in a line feed, and a capture with no feature writes nothing.
---   lineText vs          the line that says the five numbers vs; nothing where there are none
+--   lineRuns, lineText   the line that says five numbers, as its words and numbers in their order, and as text; nothing where there are none
 --   linesBelow s t n     the lines of the first n entries of the table at t, in table order, each once
---   refusedText n        the line of a refusal;   unreadableText   the line of an unreadable input
+--   refusedRuns, refusedText   the line of a refusal;   unreadableText   the line of an unreadable input
 --   saidText s a         what is written where the listing of the input s says a
 --   textOf s             all that is written for the input s
 --   longest              the bytes of 255 lines as long as a line can be
@@ -16,7 +16,7 @@ use mathlib.Core.List.{List, [], _∷_, _++_}
 use lib.Dec.{ltb, eqb}
 use lib.ListN.{length, getD}
 use Rattle.words.specs.Answers.{Answer, refused, gives, unless, first}
-use Rattle.text.specs.Page.{over}
+use Rattle.text.specs.Page.{over, joined}
 use Rattle.text.specs.Numerals.{numeralOf}
 use Rattle.listing.specs.Lines.{Said, unreadable, answers, listingOf, barIn, lineOf}
 
@@ -55,22 +55,28 @@ unreadableText = 117 ∷ 110 ∷ 114 ∷ 101 ∷ 97 ∷ 100 ∷ 97 ∷ 98 ∷ 10
 
 -- ---- the lines
 
-unfoldable pub lineText : List ℕ → List ℕ
-lineText [] = []
-lineText (id ∷ vs) =
-    featureWord ++ numeralOf 10 id
-    ++ instancesWord ++ numeralOf 10 (getD vs 0 0)
-    ++ validWord ++ numeralOf 10 (getD vs 1 0)
-    ++ sizeWord ++ numeralOf 10 (getD vs 2 0)
-    ++ atWord ++ numeralOf 10 (getD vs 3 0)
-    ++ lineFeed
+unfoldable pub lineRuns : List ℕ → List (List ℕ)
+lineRuns [] = []
+lineRuns (id ∷ vs) =
+    featureWord ∷ numeralOf 10 id ∷
+    instancesWord ∷ numeralOf 10 (getD vs 0 0) ∷
+    validWord ∷ numeralOf 10 (getD vs 1 0) ∷
+    sizeWord ∷ numeralOf 10 (getD vs 2 0) ∷
+    atWord ∷ numeralOf 10 (getD vs 3 0) ∷
+    lineFeed ∷ []
+
+abbrev pub lineText : List ℕ → List ℕ
+lineText vs = joined (lineRuns vs)
 
 unfoldable pub linesBelow : List ℕ → ℕ → ℕ → List ℕ
 linesBelow s t zero = []
 linesBelow s t (suc k) = linesBelow s t k ++ lineText (lineOf s t k)
 
+abbrev pub refusedRuns : ℕ → List (List ℕ)
+refusedRuns n = refusedWord ∷ numeralOf 10 n ∷ lineFeed ∷ []
+
 abbrev pub refusedText : ℕ → List ℕ
-refusedText n = refusedWord ++ numeralOf 10 n ++ lineFeed
+refusedText n = joined (refusedRuns n)
 
 -- an accepted table is told as BAR number, place, bytes of an entry, number of entries
 abbrev pub saidText : List ℕ → Said → List ℕ

@@ -1,12 +1,12 @@
 // The whole listing of an input, on a lent page: the line `unreadable`, the line of a refusal, or a line for each entry that is not empty, in
 // table order.
 ghost use mathlib.Core.Path.{_≡_};
-ghost use Prim.Native.Nat.{_+_, _≤_};
+ghost use Prim.Native.Nat.{_≤_};
 ghost use lib.ListN.{length};
 ghost use Rattle.places.specs.Told.{valued};
-ghost use Rattle.text.specs.Page.{over};
+ghost use Rattle.text.specs.Page.{over, overAll, afterAll};
 ghost use Rattle.listing.specs.Lines.{lineOf};
-ghost use Rattle.output.specs.Output.{lineText, linesBelow, refusedText, longest, listOf, pageLeft};
+ghost use Rattle.output.specs.Output.{lineRuns, linesBelow, refusedRuns, longest, listOf, pageLeft};
 ghost use Rattle.listing.specs.Told.{numbers};
 use listing::lines::Feature;
 use listing::lines::Line;
@@ -23,9 +23,8 @@ const LONGEST: usize = 15810;
 
 // The line of one feature, from place `at` on; the place after it.
 fn feature(page: &mut [u8], at: usize, f: Feature) -> usize
-    requires { ⌜ at + length (lineText (numbers f)) ≤ length (now page) ⌝ }
-    ensures answer { λ r. ⌜ r ≡ at + length (lineText (numbers f)) ⌝ }
-    ensures kept { λ _. ⌜ now (page .exit) ≡ over (now (page .entry)) at (lineText (numbers f)) ⌝ }
+    ensures answer { λ r. ⌜ r ≡ afterAll (now (page .entry)) at (lineRuns (numbers f)) ⌝ }
+    ensures kept { λ _. ⌜ now (page .exit) ≡ overAll (now (page .entry)) at (lineRuns (numbers f)) ⌝ }
 {
     let a = labelled(page, at, b"feature ", f.id);
     let b = labelled(page, a, b" instances ", f.instances);
@@ -37,9 +36,8 @@ fn feature(page: &mut [u8], at: usize, f: Feature) -> usize
 
 // The line of entry k of a table; nothing for an empty entry.
 fn entry(page: &mut [u8], at: usize, bar: &[u8], table: u32, k: u8) -> usize
-    requires { ⌜ at + length (lineText (lineOf (now bar) table k)) ≤ length (now page) ⌝ }
-    ensures answer { λ r. ⌜ r ≡ at + length (lineText (lineOf (now (bar .entry)) table k)) ⌝ }
-    ensures kept { λ _. ⌜ now (page .exit) ≡ over (now (page .entry)) at (lineText (lineOf (now (bar .entry)) table k)) ⌝ }
+    ensures answer { λ r. ⌜ r ≡ afterAll (now (page .entry)) at (lineRuns (lineOf (now (bar .entry)) table k)) ⌝ }
+    ensures kept { λ _. ⌜ now (page .exit) ≡ overAll (now (page .entry)) at (lineRuns (lineOf (now (bar .entry)) table k)) ⌝ }
 {
     let Line::Says(f) = line_of(bar, table, k) else {
         return at;
@@ -64,9 +62,8 @@ fn lines(page: &mut [u8], bar: &[u8], table: u32, entries: u8) -> usize
 
 // The line of a refusal, at the page's start; the place after it.
 fn refusal(page: &mut [u8], n: u8) -> usize
-    requires { ⌜ longest ≤ length (now page) ⌝ }
-    ensures answer { λ r. ⌜ r ≡ length (refusedText n) ⌝ }
-    ensures kept { λ _. ⌜ now (page .exit) ≡ over (now (page .entry)) 0 (refusedText n) ⌝ }
+    ensures answer { λ r. ⌜ r ≡ afterAll (now (page .entry)) 0 (refusedRuns n) ⌝ }
+    ensures kept { λ _. ⌜ now (page .exit) ≡ overAll (now (page .entry)) 0 (refusedRuns n) ⌝ }
 {
     let a = labelled(page, 0, b"refused ", n as u64);
     put(page, a, b"\n")

@@ -10,8 +10,8 @@ use lib.ListN.{length, getD, take, drop, take-append-drop, length-append, length
 use lib.Seq.{length-take-le, take-length, drop-drop, take-append-seam, drop-append-add, getD-append-add, getD-take, getD-drop}
 use native.Mathlib.Nat.{zero-add, add-zero, add-assoc}
 use native.Mathlib.Omega.{arith}
-use Rattle.text.specs.Page.{fits, over, after, overBoth, afterBoth}
-use Rattle.text.specs.Facts.{PutFact, ThenFact}
+use Rattle.text.specs.Page.{fits, over, after, overAll, afterAll, joined}
+use Rattle.text.specs.Facts.{PutFact, RunsFact}
 
 module _ (xs : List ℕ) (at : ℕ) (ys : List ℕ) where
   pub over-fits : at + length ys ≤ length xs → over xs at ys ≡ take at xs ++ ys ++ drop (at + length ys) xs
@@ -96,41 +96,54 @@ module _ (xs : List ℕ) (at : ℕ) (ys : List ℕ) where
         short = λ h. (over-short xs at ys h, after-short xs at ys h);
       }
 
--- ---- two runs of words
+-- ---- runs of words
 
--- put one after the other
-pub one-then : (xs : List ℕ) (at : ℕ) (ys zs : List ℕ) {m r : ℕ} {ps rs : List ℕ} → (m ≡ after xs at ys) × (ps ≡ over xs at ys)
-    → (r ≡ after ps m zs) × (rs ≡ over ps m zs) → (r ≡ afterBoth xs at ys zs) × (rs ≡ overBoth xs at ys zs)
-one-then xs at ys zs p q =
-    (q .0 ∙ ap₂ (λ (ps : List ℕ) (m : ℕ). after ps m zs) (p .1) (p .0), q .1 ∙ ap₂ (λ (ps : List ℕ) (m : ℕ). over ps m zs) (p .1) (p .0))
+-- runs put after runs, as calls answer it
+pub runs-on : (xs : List ℕ) (at : ℕ) (yss zss : List (List ℕ)) {m r : ℕ} {ps rs : List ℕ} → (m ≡ afterAll xs at yss) × (ps ≡ overAll xs at yss)
+    → (r ≡ afterAll ps m zss) × (rs ≡ overAll ps m zss) → (r ≡ afterAll xs at (yss ++ zss)) × (rs ≡ overAll xs at (yss ++ zss))
+runs-on xs at [] zss p q =
+    (q .0 ∙ ap₂ (λ (ps : List ℕ) (m : ℕ). afterAll ps m zss) (p .1) (p .0), q .1 ∙ ap₂ (λ (ps : List ℕ) (m : ℕ). overAll ps m zss) (p .1) (p .0))
+runs-on xs at (ys ∷ yss) zss p q = runs-on (over xs at ys) (after xs at ys) yss zss p q
 
-module _ (xs : List ℕ) (at : ℕ) (ys zs : List ℕ) where
-  all-fit : at + length (ys ++ zs) ≤ length xs → at + length ys + length zs ≤ length xs
-  all-fit h = omega (arith, length-append ys zs)
+module _ (xs : List ℕ) (at : ℕ) (ys zs : List ℕ) (h : at + length (ys ++ zs) ≤ length xs) where
+  all-fit : at + length ys + length zs ≤ length xs
+  all-fit = omega (arith, length-append ys zs)
 
-  then-words : at + length (ys ++ zs) ≤ length xs → overBoth xs at ys zs ≡ over xs at (ys ++ zs)
-  then-words h =
-      let l : at + length ys + length zs ≤ length xs = all-fit h in
+  pub then-words : over (over xs at ys) (at + length ys) zs ≡ over xs at (ys ++ zs)
+  then-words =
+      let l : at + length ys + length zs ≤ length xs = all-fit in
       let p : List ℕ = take at xs ++ ys in
       let d : List ℕ = drop (at + length ys) xs in
       let e : length p ≡ at + length ys = head-length xs at ys (omega arith) in
       let o : over xs at ys ≡ p ++ d = over-fits xs at ys (omega arith) in
       let f : length (p ++ d) ≡ length xs = ap length (sym o) ∙ length-over xs at ys in
-      ap₂ (λ (ps : List ℕ) (m : ℕ). over ps m zs) o (after-fits xs at ys (omega arith) ∙ sym e)
+      ap₂ (λ (ps : List ℕ) (m : ℕ). over ps m zs) o (sym e)
       ∙ over-fits (p ++ d) (length p) zs (omega arith)
       ∙ ap₂ (λ (us vs : List ℕ). us ++ zs ++ vs) (take-append-seam p d) (drop-append-add p d (length zs) ∙ drop-drop (length zs) (at + length ys) xs)
       ∙ ap₂ (λ (us : List ℕ) (m : ℕ). us ++ drop m xs) (append-assoc (take at xs) ys zs) (add-assoc at (length ys) (length zs) ∙ ap (λ (m : ℕ). at + m) (sym (length-append ys zs)))
       ∙ sym (over-fits xs at (ys ++ zs) h)
 
-  then-place : at + length (ys ++ zs) ≤ length xs → afterBoth xs at ys zs ≡ at + length (ys ++ zs)
-  then-place h =
-      let l : at + length ys + length zs ≤ length xs = all-fit h in
-      ap (λ (m : ℕ). after (over xs at ys) m zs) (after-fits xs at ys (omega arith))
-      ∙ after-fits (over xs at ys) (at + length ys) zs (omega (arith, length-over xs at ys))
-      ∙ add-assoc at (length ys) (length zs) ∙ ap (λ (m : ℕ). at + m) (sym (length-append ys zs))
+-- no words at all
+pub over-nothing : (xs : List ℕ) (at : ℕ) → at ≤ length xs → over xs at [] ≡ xs
+over-nothing xs at h =
+    over-fits xs at [] (omega arith) ∙ ap₂ (λ (us : List ℕ) (m : ℕ). us ++ drop m xs) (append-nil (take at xs)) (add-zero at) ∙ take-append-drop at xs
 
-  pub then-fact : ThenFact xs at ys zs
-  then-fact = record { words = then-words; place = then-place }
+pub runs-fact : (xs : List ℕ) (at : ℕ) (yss : List (List ℕ)) → RunsFact xs at yss
+runs-fact xs at [] = record { words = λ h. sym (over-nothing xs at (omega arith)); place = λ h. sym (add-zero at) }
+runs-fact xs at (ys ∷ yss) =
+    record {
+      words = λ h.
+          let here : after xs at ys ≡ at + length ys = after-fits xs at ys (omega (arith, length-append ys (joined yss))) in
+          ap (λ (m : ℕ). overAll (over xs at ys) m yss) here
+          ∙ runs-fact (over xs at ys) (at + length ys) yss .words (omega (arith, length-over xs at ys, length-append ys (joined yss)))
+          ∙ then-words xs at ys (joined yss) h;
+      place = λ h.
+          let here : after xs at ys ≡ at + length ys = after-fits xs at ys (omega (arith, length-append ys (joined yss))) in
+          ap (λ (m : ℕ). afterAll (over xs at ys) m yss) here
+          ∙ runs-fact (over xs at ys) (at + length ys) yss .place (omega (arith, length-over xs at ys, length-append ys (joined yss)))
+          ∙ add-assoc at (length ys) (length (joined yss))
+          ∙ ap (λ (m : ℕ). at + m) (sym (length-append ys (joined yss)));
+    }
 
 -- ---- a text that grows
 
@@ -139,35 +152,17 @@ pub record Stands (xs : List ℕ) (at : ℕ) (ys ps : List ℕ) (m : ℕ) : Type
   pub page : ps ≡ over xs at ys
   pub place : m ≡ at + length ys
 
--- a shorter text fits where a longer one does
-pub room-first : (n at : ℕ) (ys zs : List ℕ) → at + length (ys ++ zs) ≤ n → at + length ys ≤ n
-room-first n at ys zs h = omega (arith, length-append ys zs)
-
 pub stands-none : (xs : List ℕ) (at : ℕ) → at ≤ length xs → Stands xs at [] xs at
-stands-none xs at h =
-    record {
-      page = sym (over-fits xs at [] (omega arith) ∙ ap₂ (λ (us : List ℕ) (m : ℕ). us ++ drop m xs) (append-nil (take at xs)) (add-zero at) ∙ take-append-drop at xs);
-      place = sym (add-zero at);
-    }
+stands-none xs at h = record { page = sym (over-nothing xs at h); place = sym (add-zero at) }
 
 module _ (xs : List ℕ) (at : ℕ) {ys ps : List ℕ} {m : ℕ} (so : Stands xs at ys ps m) (zs : List ℕ) (h : at + length (ys ++ zs) ≤ length xs) where
-  -- words put after it
-  pub stands-on : {r : ℕ} {rs : List ℕ} → (r ≡ after ps m zs) × (rs ≡ over ps m zs) → Stands xs at (ys ++ zs) rs r
-  stands-on q =
-      let here : m ≡ after xs at ys = so .place ∙ sym (after-fits xs at ys (room-first (length xs) at ys zs h)) in
-      let both = one-then xs at ys zs (here, so .page) q in
-      record { page = both .1 ∙ then-fact xs at ys zs .words h; place = both .0 ∙ then-fact xs at ys zs .place h }
-
-  -- words that are known to fit
+  -- words that are known to fit, put after it
   pub stands-next : {r : ℕ} {rs : List ℕ} → (r ≡ m + length zs) × (rs ≡ over ps m zs) → Stands xs at (ys ++ zs) rs r
   stands-next q =
-      let e : length ps ≡ length xs = ap length (so .page) ∙ length-over xs at ys in
-      stands-on (q .0 ∙ sym (after-fits ps m zs (omega (arith, so .place, length-append ys zs))), q .1)
-
--- two runs of words put after it
-pub stands-both : (xs : List ℕ) (at : ℕ) {ys ps : List ℕ} {m : ℕ} → Stands xs at ys ps m → (us vs : List ℕ) → at + length (ys ++ us ++ vs) ≤ length xs
-    → {r : ℕ} {rs : List ℕ} → (r ≡ afterBoth ps m us vs) × (rs ≡ overBoth ps m us vs) → Stands xs at (ys ++ us ++ vs) rs r
-stands-both xs at {ys} so us vs h q = stands-on xs at (stands-on xs at so us (room-first (length xs) at (ys ++ us) vs h) (refl, refl)) vs h q
+      record {
+        page = q .1 ∙ ap₂ (λ (us : List ℕ) (k : ℕ). over us k zs) (so .page) (so .place) ∙ then-words xs at ys zs h;
+        place = q .0 ∙ ap (λ (k : ℕ). k + length zs) (so .place) ∙ add-assoc at (length ys) (length zs) ∙ ap (λ (k : ℕ). at + k) (sym (length-append ys zs));
+      }
 
 -- a text at the page's start
 pub stands-start : {xs ys ps : List ℕ} {m : ℕ} → Stands xs 0 ys ps m → (m ≡ length ys) × (ps ≡ over xs 0 ys)

@@ -4,9 +4,9 @@
 use Prim.Native.Nat.{ℕ, _+_, _^_, _≤_, _<_}
 use mathlib.Core.Path.{_≡_}
 use mathlib.Core.Logic.{_⊎_, _≢_}
-use mathlib.Core.List.{List, [], _∷_, _++_}
+use mathlib.Core.List.{List, [], _∷_}
 use lib.ListN.{length, getD}
-use Rattle.text.specs.Page.{over, after, overBoth, afterBoth}
+use Rattle.text.specs.Page.{over, after, overAll, afterAll, joined}
 use Rattle.text.specs.Numerals.{glyphOf, placesOf, numeralOf, readAs}
 
 -- Where words fit they stand there, every other byte is as it was, and the place moves past them; where they do not, all is as it was.
@@ -18,10 +18,10 @@ pub record PutFact (xs : List ℕ) (at : ℕ) (ys : List ℕ) : Type 0 where
   pub place : at + length ys ≤ length xs → after xs at ys ≡ at + length ys
   pub short : length xs < at + length ys → (over xs at ys ≡ xs) × (after xs at ys ≡ at)
 
--- Two runs of words, the second put where the first ended, are one run, where it fits.
-pub record ThenFact (xs : List ℕ) (at : ℕ) (ys zs : List ℕ) : Type 0 where
-  pub words : at + length (ys ++ zs) ≤ length xs → overBoth xs at ys zs ≡ over xs at (ys ++ zs)
-  pub place : at + length (ys ++ zs) ≤ length xs → afterBoth xs at ys zs ≡ at + length (ys ++ zs)
+-- Runs of words, each put where the one before it ended, are one text, where it fits.
+pub record RunsFact (xs : List ℕ) (at : ℕ) (yss : List (List ℕ)) : Type 0 where
+  pub words : at + length (joined yss) ≤ length xs → overAll xs at yss ≡ over xs at (joined yss)
+  pub place : at + length (joined yss) ≤ length xs → afterAll xs at yss ≡ at + length (joined yss)
 
 -- A number as text: it reads back as the number; every byte stands for a digit of the base; a zero stands in front of nothing but 0
 -- itself; it has as many digits as the number takes, at least one, and at most k where the number is below b to the k. So two numbers

@@ -2,11 +2,12 @@
 --   fits xs at ys    ys end inside the page xs
 --   over xs at ys    the page with ys from place `at` on; the page itself where they do not fit
 --   after xs at ys   the place after them; `at` itself where they do not fit
---   overBoth, afterBoth   the same of two runs of words, the second where the first ended
+--   overAll, afterAll    the same of runs of words, each where the one before it ended
+--   joined yss           the runs as one
 -- Assumes nothing.
 use Prim.Native.Nat.{ℕ, _+_}
 use mathlib.Core.Bool.{Bool, cond}
-use mathlib.Core.List.{List, _++_}
+use mathlib.Core.List.{List, [], _∷_, _++_}
 use lib.Dec.{leb}
 use lib.ListN.{length, take, drop}
 
@@ -19,8 +20,14 @@ over xs at ys = cond (fits xs at ys) (take at xs ++ ys ++ drop (at + length ys) 
 unfoldable pub after : List ℕ → ℕ → List ℕ → ℕ
 after xs at ys = cond (fits xs at ys) (at + length ys) at
 
-abbrev pub overBoth : List ℕ → ℕ → List ℕ → List ℕ → List ℕ
-overBoth xs at ys zs = over (over xs at ys) (after xs at ys) zs
+abbrev pub overAll : List ℕ → ℕ → List (List ℕ) → List ℕ
+overAll xs at [] = xs
+overAll xs at (ys ∷ yss) = overAll (over xs at ys) (after xs at ys) yss
 
-abbrev pub afterBoth : List ℕ → ℕ → List ℕ → List ℕ → ℕ
-afterBoth xs at ys zs = after (over xs at ys) (after xs at ys) zs
+abbrev pub afterAll : List ℕ → ℕ → List (List ℕ) → ℕ
+afterAll xs at [] = at
+afterAll xs at (ys ∷ yss) = afterAll (over xs at ys) (after xs at ys) yss
+
+abbrev pub joined : List (List ℕ) → List ℕ
+joined [] = []
+joined (ys ∷ yss) = ys ++ joined yss

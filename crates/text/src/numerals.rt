@@ -1,7 +1,8 @@
 // Numbers as text: decimal and hexadecimal digits, the highest first, with no zero in front. One loop writes for every base.
 ghost use mathlib.Core.Path.{_≡_};
+ghost use mathlib.Core.List.{[], _∷_};
 ghost use Prim.Native.Nat.{_<_, _≤_};
-ghost use Rattle.text.specs.Page.{over, after, overBoth, afterBoth};
+ghost use Rattle.text.specs.Page.{over, after, overAll, afterAll};
 ghost use Rattle.text.specs.Numerals.{glyphOf, placesOf, numeralOf};
 use crate::page::put;
 
@@ -68,8 +69,8 @@ pub fn hex(page: &mut [u8], at: usize, n: u64) -> usize
 
 // Words and, after them, a number in decimal.
 pub fn labelled(page: &mut [u8], at: usize, words: &[u8], n: u64) -> usize
-    ensures answer { λ r. ⌜ r ≡ afterBoth (now (page .entry)) at (now (words .entry)) (numeralOf 10 n) ⌝ }
-    ensures kept { λ _. ⌜ now (page .exit) ≡ overBoth (now (page .entry)) at (now (words .entry)) (numeralOf 10 n) ⌝ }
+    ensures answer { λ r. ⌜ r ≡ afterAll (now (page .entry)) at (now (words .entry) ∷ numeralOf 10 n ∷ []) ⌝ }
+    ensures kept { λ _. ⌜ now (page .exit) ≡ overAll (now (page .entry)) at (now (words .entry) ∷ numeralOf 10 n ∷ []) ⌝ }
 {
     let next = put(page, at, words);
     decimal(page, next, n)
@@ -77,8 +78,8 @@ pub fn labelled(page: &mut [u8], at: usize, words: &[u8], n: u64) -> usize
 
 // Words and, after them, a number in hexadecimal.
 pub fn labelled_hex(page: &mut [u8], at: usize, words: &[u8], n: u64) -> usize
-    ensures answer { λ r. ⌜ r ≡ afterBoth (now (page .entry)) at (now (words .entry)) (numeralOf 16 n) ⌝ }
-    ensures kept { λ _. ⌜ now (page .exit) ≡ overBoth (now (page .entry)) at (now (words .entry)) (numeralOf 16 n) ⌝ }
+    ensures answer { λ r. ⌜ r ≡ afterAll (now (page .entry)) at (now (words .entry) ∷ numeralOf 16 n ∷ []) ⌝ }
+    ensures kept { λ _. ⌜ now (page .exit) ≡ overAll (now (page .entry)) at (now (words .entry) ∷ numeralOf 16 n ∷ []) ⌝ }
 {
     let next = put(page, at, words);
     hex(page, next, n)

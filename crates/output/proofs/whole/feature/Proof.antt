@@ -1,7 +1,9 @@
 -- `output::whole::feature` meets its contract: its calls put the line's words and numbers one after the other. Assumes nothing.
+use Prim.Native.Nat.{ℕ}
+use mathlib.Core.List.{List, [], _∷_, _++_}
 use Rattle.text.specs.Numerals.{numeralOf}
-use Rattle.output.specs.Output.{featureWord, instancesWord, validWord, sizeWord, atWord, lineFeed, lineText}
-use Rattle.output.proofs.OutputLaws.{five-stand}
+use Rattle.text.proofs.PageLaws.{runs-on}
+use Rattle.output.specs.Output.{featureWord, instancesWord, validWord, sizeWord, atWord, lineFeed, lineRuns}
 use borrow.Author.Needs.{needs}
 use Rattle.output.proofs.whole.feature.Statement.{statement}
 use Rattle.output.proofs.whole.feature.Tie as tie
@@ -46,19 +48,26 @@ same-length : tie.Need-same-length
 same-length c = search needs
 
 returns : tie.Need-returns
-unfolding lineText
+unfolding lineRuns
 returns c =
     let e = c .before .before .before .before .before .before .before in
     let d = e .before .before .before .before .before in
     let k = d .before .before .before .before .before in
     let b = k .before .before .before .before .before in
     let a = b .before .before .before .before .before in
-    let s = a .before .before .before .before in
-    let f = s .args .f in
-    let so = five-stand (s .args .page .now) (s .args .at) featureWord (numeralOf 10 (f .id)) instancesWord (numeralOf 10 (f .instances)) validWord (numeralOf 10 (f .valid)) sizeWord
-    (numeralOf 10 (f .size)) atWord (numeralOf 10 (f .start)) lineFeed (s .pre) (a .labelled .ensures) (b .labelled2 .ensures) (k .labelled3 .ensures) (d .labelled4 .ensures)
-    (e .labelled5 .ensures) (c .before .before .put .ensures) in
-    (so .place, so .page)
+    let s = a .before .before .before .before .args in
+    let f = s .f in
+    let xs = s .page .now in
+    let w : List (List ℕ) = featureWord ∷ numeralOf 10 (f .id) ∷ [] in
+    let x : List (List ℕ) = instancesWord ∷ numeralOf 10 (f .instances) ∷ [] in
+    let y : List (List ℕ) = validWord ∷ numeralOf 10 (f .valid) ∷ [] in
+    let z : List (List ℕ) = sizeWord ∷ numeralOf 10 (f .size) ∷ [] in
+    let v : List (List ℕ) = atWord ∷ numeralOf 10 (f .start) ∷ [] in
+    runs-on xs (s .at) (w ++ x ++ y ++ z ++ v) (lineFeed ∷ [])
+    (runs-on xs (s .at) (w ++ x ++ y ++ z) v
+    (runs-on xs (s .at) (w ++ x ++ y) z (runs-on xs (s .at) (w ++ x) y (runs-on xs (s .at) w x (a .labelled .ensures) (b .labelled2 .ensures)) (k .labelled3 .ensures)) (d .labelled4 .ensures))
+    (e .labelled5 .ensures))
+    (c .before .before .put .ensures)
 
 pub feature-spec : {M : Type 1} → statement M
 feature-spec =

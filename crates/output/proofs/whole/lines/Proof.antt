@@ -2,11 +2,12 @@
 -- left of the entries. Assumes nothing.
 use Prim.Native.Nat.{ℕ, _-_, _≤_}
 use mathlib.Core.Path.{_≡_, ap, subst, _∙_}
+use borrow.Author.Needs.{needs}
 use native.Mathlib.Omega.{arith}
 use lib.ListN.{length}
 use Rattle.text.proofs.PageLaws.{Stands, stands-start, length-over}
 use Rattle.output.specs.Output.{linesBelow}
-use Rattle.output.proofs.OutputLaws.{Listed, listed-none, listed-room, listed-next}
+use Rattle.output.proofs.OutputLaws.{Listed, listed-none, listed-next}
 use Rattle.output.proofs.whole.lines.Statement.{statement}
 use Rattle.output.proofs.whole.lines.Tie as tie
 
@@ -22,10 +23,7 @@ loop-holds c =
     (omega arith, listed-none (s .args .page .now) (s .args .bar .now) (s .args .table) (s .fits .table .fits) (s .pre))
 
 entry-requires : tie.Need-entry-requires Inv-loop μ-loop
-entry-requires c κs =
-    let l = c .before .before .loop in
-    let s = c .before .before .before .before .before in
-    listed-room (s .args .page .now) (s .args .bar .now) (s .args .table) (s .fits .table .fits) (s .pre) (l .k) (omega arith) (l .inv .1)
+entry-requires c κs = search needs
 
 add-k : tie.Need-add-k Inv-loop μ-loop
 add-k c = omega arith

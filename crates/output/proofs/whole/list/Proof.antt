@@ -7,8 +7,8 @@ use lib.ListN.{length}
 use Rattle.text.specs.Page.{over}
 use Rattle.text.proofs.PageLaws.{after-fits}
 use Rattle.listing.specs.Told.{listed}
-use Rattle.output.specs.Output.{unreadableText, linesBelow}
-use Rattle.output.proofs.OutputLaws.{list-short, list-fits}
+use Rattle.output.specs.Output.{unreadableText, refusedRuns, linesBelow}
+use Rattle.output.proofs.OutputLaws.{refused-short, text-put, list-short, list-fits}
 use borrow.Author.Needs.{needs}
 use Rattle.output.proofs.whole.list.Statement.{statement}
 use Rattle.output.proofs.whole.list.Tie as tie
@@ -61,7 +61,9 @@ returns-3 : tie.Need-returns-3
 returns-3 c =
     let l = c .before .before .before .before .before .before .before in
     let a = l .before .before .before .before .args in
-    list-fits (a .page .now) (a .input .now) (l .before .if1 .left) (sym (l .listing-of .ensures) ∙ ap listed (c .before .before .before .before .before .listing .given .1)) (c .before .before .refusal .ensures)
+    let n = c .before .before .before .before .before .listing .given .0 .0 in
+    list-fits (a .page .now) (a .input .now) (l .before .if1 .left) (sym (l .listing-of .ensures) ∙ ap listed (c .before .before .before .before .before .listing .given .1))
+    (text-put (a .page .now) (refusedRuns n) (omega (arith, l .before .if1 .left, refused-short n (omega arith))) (c .before .before .refusal .ensures))
 
 same-length-3 : tie.Need-same-length-3
 same-length-3 c = search needs

@@ -1,12 +1,8 @@
 -- `output::whole::refusal` meets its contract: the word, the number and a line feed, one after the other. Assumes nothing.
-use Prim.Native.Nat.{_+_, _≤_}
-use mathlib.Core.List.{_++_}
-use native.Mathlib.Omega.{arith}
-use lib.ListN.{length}
+use mathlib.Core.List.{[], _∷_}
 use Rattle.text.specs.Numerals.{numeralOf}
-use Rattle.text.proofs.PageLaws.{room-first, stands-none, stands-on, stands-both, stands-start}
-use Rattle.output.specs.Output.{refusedWord, lineFeed, refusedText}
-use Rattle.output.proofs.OutputLaws.{refused-short}
+use Rattle.text.proofs.PageLaws.{runs-on}
+use Rattle.output.specs.Output.{refusedWord, lineFeed}
 use borrow.Author.Needs.{needs}
 use Rattle.output.proofs.whole.refusal.Statement.{statement}
 use Rattle.output.proofs.whole.refusal.Tie as tie
@@ -28,14 +24,9 @@ same-length c = search needs
 
 returns : tie.Need-returns
 returns c =
-    let a = c .before .before .before .before .before .before .before in
-    let s = a .before .before .before .before in
-    let xs = s .args .page .now in
-    let n = numeralOf 10 (s .args .n) in
-    let room : 0 + length (refusedText (s .args .n)) ≤ length xs = omega (arith, s .pre, refused-short (s .args .n) (omega arith)) in
-    stands-start
-    (stands-on xs 0 (stands-both xs 0 (stands-none xs 0 (omega arith)) refusedWord n (room-first (length xs) 0 (refusedWord ++ n) lineFeed room) (a .labelled .ensures)) lineFeed room
-    (c .before .before .put .ensures))
+    let d = c .before .before .before .before .before .before .before in
+    let a = d .before .before .before .before .args in
+    runs-on (a .page .now) 0 (refusedWord ∷ numeralOf 10 (a .n) ∷ []) (lineFeed ∷ []) (d .labelled .ensures) (c .before .before .put .ensures)
 
 pub refusal-spec : {M : Type 1} → statement M
 refusal-spec =

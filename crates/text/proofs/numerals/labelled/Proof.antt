@@ -1,7 +1,8 @@
 -- `text::numerals::labelled` meets its contract: the words, then the numeral. Assumes nothing.
+use mathlib.Core.List.{[], _∷_}
 use borrow.Author.Needs.{needs}
 use Rattle.text.specs.Numerals.{numeralOf}
-use Rattle.text.proofs.PageLaws.{one-then}
+use Rattle.text.proofs.PageLaws.{runs-on}
 use Rattle.text.proofs.numerals.labelled.Statement.{statement}
 use Rattle.text.proofs.numerals.labelled.Tie as tie
 
@@ -17,7 +18,8 @@ same-length c = search needs
 returns : tie.Need-returns
 returns c =
     let p = c .before .before .before .before .before .before in
-    one-then _ _ _ (numeralOf 10 (p .before .before .before .before .args .n)) (p .put .ensures) (c .before .before .decimal .ensures)
+    let a = p .before .before .before .before .args in
+    runs-on (a .page .now) (a .at) (a .words .now ∷ []) (numeralOf 10 (a .n) ∷ []) (p .put .ensures) (c .before .before .decimal .ensures)
 
 pub labelled-spec : {M : Type 1} → statement M
 labelled-spec = tie.close (tie.spec put-requires decimal-requires same-length returns)
