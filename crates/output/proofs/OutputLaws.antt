@@ -18,8 +18,8 @@ use Rattle.entries.specs.Entry.{entryOf, entryAt}
 use Rattle.banks.specs.Faults.{bankOf, bankIn, emptyBank}
 use Rattle.banks.proofs.FaultLaws.{Bounded, bank-bounded}
 use Rattle.counts.specs.Valid.{validIn, validCountIn}
-use Rattle.text.specs.Page.{over, overAll, afterAll, joined}
-use Rattle.text.proofs.PageLaws.{length-over, runs-fact, Stands, stands-none, stands-next}
+use Rattle.text.specs.Page.{over, joined}
+use Rattle.text.proofs.PageLaws.{length-over, PutAll, runs-fact, Stands, stands-none, stands-next}
 use Rattle.text.specs.Numerals.{numeralOf}
 use Rattle.text.proofs.NumeralFact.{numeral-fact}
 use Rattle.listing.specs.Lines.{Said, listingOf, lineOf}
@@ -32,7 +32,7 @@ PutAt xs at ys r rs = (r ≡ at + length ys) × (rs ≡ over xs at ys)
 
 -- runs of words where there is room for all
 pub all-put : (xs : List ℕ) (at : ℕ) (yss : List (List ℕ)) {r : ℕ} {rs : List ℕ} → at + length (joined yss) ≤ length xs
-    → (r ≡ afterAll xs at yss) × (rs ≡ overAll xs at yss) → PutAt xs at (joined yss) r rs
+    → PutAll xs at r rs yss → PutAt xs at (joined yss) r rs
 all-put xs at yss h q = let f = runs-fact xs at yss in (q .0 ∙ f .place h, q .1 ∙ f .words h)
 
 -- ---- how long a line can be
@@ -100,8 +100,7 @@ module _ (xs s : List ℕ) (t : ℕ) (small : t < 2 ^ 32) (room : longest ≤ le
     next-room : 0 + length (linesBelow s t k ++ lineText (lineOf s t k)) ≤ length xs
     next-room = omega (arith, so .stands .place, so .short, line-short s t k small, length-append (linesBelow s t k) (lineText (lineOf s t k)))
 
-    pub listed-next : {r : ℕ} {rs : List ℕ} → (r ≡ afterAll ps at (lineRuns (lineOf s t k))) × (rs ≡ overAll ps at (lineRuns (lineOf s t k)))
-        → Listed xs s t (k + 1) rs r
+    pub listed-next : {r : ℕ} {rs : List ℕ} → PutAll ps at r rs (lineRuns (lineOf s t k)) → Listed xs s t (k + 1) rs r
     listed-next {r} {rs} calls =
         let q : PutAt ps at (lineText (lineOf s t k)) r rs = all-put ps at (lineRuns (lineOf s t k)) listed-room calls in
         record {
@@ -111,7 +110,7 @@ module _ (xs s : List ℕ) (t : ℕ) (small : t < 2 ^ 32) (room : longest ≤ le
 
 -- a text put at the page's start
 pub text-put : (xs : List ℕ) (yss : List (List ℕ)) {r : ℕ} {rs : List ℕ} → length (joined yss) ≤ length xs
-    → (r ≡ afterAll xs 0 yss) × (rs ≡ overAll xs 0 yss) → (r ≡ length (joined yss)) × (rs ≡ over xs 0 (joined yss))
+    → PutAll xs 0 r rs yss → (r ≡ length (joined yss)) × (rs ≡ over xs 0 (joined yss))
 text-put xs yss h q = let p = all-put xs 0 yss (omega arith) q in (p .0 ∙ zero-add (length (joined yss)), p .1)
 
 -- ---- the whole listing

@@ -12,7 +12,7 @@ use Rattle.domains.proofs.Told as domains
 use Rattle.units.proofs.Theorems as units
 use Rattle.channel.proofs.Theorems as channel
 use Rattle.energy.proofs.Theorems as energy
-use Rattle.stamp.specs.Unique.{WordsUnique, CapturesUnique, StoresUnique, TextUnique, FieldsUnique, PlacesUnique, ChannelUnique, VsecUnique, DomainsUnique, EntriesUnique, UnitsUnique, BanksUnique, EnergyUnique, WalkUnique, WindowsUnique, ContentsUnique, LimitsUnique, DiscoveryUnique, PermitsUnique, FeaturesUnique, RaplUnique, CountsUnique, RegistersUnique, WritesUnique, ListingUnique, OutputUnique}
+use Rattle.stamp.specs.Unique.{WordsUnique, CapturesUnique, StoresUnique, TextUnique, FieldsUnique, PlacesUnique, ReportUnique, ChannelUnique, VsecUnique, DomainsUnique, EntriesUnique, UnitsUnique, BanksUnique, EnergyUnique, WalkUnique, WindowsUnique, ContentsUnique, LimitsUnique, DiscoveryUnique, PermitsUnique, FeaturesUnique, RaplUnique, CountsUnique, RegistersUnique, WritesUnique, ListingUnique, OutputUnique}
 
 pub words-unique : WordsUnique
 words-unique =
@@ -70,6 +70,21 @@ places-unique =
       number-of = λ κs a x y s t p q. p ∙ sym q;
       bar-of = λ κs a x y s t p q. p ∙ sym q;
       part-of = λ κs a x y s t p q. p ∙ sym q;
+    }
+
+pub report-unique : ReportUnique
+report-unique =
+    record {
+      refusal = λ κs a x y s t p q. p .0 ∙ sym (q .0);
+      refusal-kept = λ κs a x y s t p q. p .1 ∙ sym (q .1);
+      outcome = λ κs a x y s t p q. p .0 ∙ sym (q .0);
+      outcome-kept = λ κs a x y s t p q. p .1 ∙ sym (q .1);
+      value = λ κs a x y s t p q. p .0 ∙ sym (q .0);
+      value-kept = λ κs a x y s t p q. p .1 ∙ sym (q .1);
+      content = λ κs a x y s t p q. p .0 ∙ sym (q .0);
+      content-kept = λ κs a x y s t p q. p .1 ∙ sym (q .1);
+      place = λ κs a x y s t p q. p .0 ∙ sym (q .0);
+      place-kept = λ κs a x y s t p q. p .1 ∙ sym (q .1);
     }
 
 pub channel-unique : ChannelUnique

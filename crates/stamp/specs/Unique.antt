@@ -30,6 +30,11 @@ use Rattle.fields.proofs.bits.with_field.Reads as fields-with-field
 use Rattle.places.proofs.found.number_of.Reads as places-number-of
 use Rattle.places.proofs.found.bar_of.Reads as places-bar-of
 use Rattle.places.proofs.found.part_of.Reads as places-part-of
+use Rattle.report.proofs.answers.refusal.Reads as report-refusal
+use Rattle.report.proofs.answers.outcome.Reads as report-outcome
+use Rattle.report.proofs.answers.value.Reads as report-value
+use Rattle.report.proofs.answers.content.Reads as report-content
+use Rattle.report.proofs.answers.place.Reads as report-place
 use Rattle.channel.proofs.record.Channel.take.Reads as channel-take
 use Rattle.channel.proofs.record.closed_channel.Reads as channel-closed-channel
 use Rattle.channel.proofs.record.Channel.share.Reads as channel-share
@@ -132,6 +137,18 @@ pub record PlacesUnique : Type 0 where
   pub number-of : Only places-number-of.Post
   pub bar-of : Fixes (λ κs x s. now x) places-bar-of.Post
   pub part-of : Fixes (λ κs x s. now x) places-part-of.Post
+
+pub record ReportUnique : Type 0 where
+  pub refusal : Only report-refusal.Post
+  pub refusal-kept : Fixes (λ κs x s. now (s .0)) report-refusal.Post
+  pub outcome : Only report-outcome.Post
+  pub outcome-kept : Fixes (λ κs x s. now (s .0)) report-outcome.Post
+  pub value : Only report-value.Post
+  pub value-kept : Fixes (λ κs x s. now (s .0)) report-value.Post
+  pub content : Only report-content.Post
+  pub content-kept : Fixes (λ κs x s. now (s .0)) report-content.Post
+  pub place : Only report-place.Post
+  pub place-kept : Fixes (λ κs x s. now (s .0)) report-place.Post
 
 pub record ChannelUnique : Type 0 where
   pub take : Only channel-take.Post

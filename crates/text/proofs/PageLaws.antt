@@ -98,9 +98,13 @@ module _ (xs : List ℕ) (at : ℕ) (ys : List ℕ) where
 
 -- ---- runs of words
 
--- runs put after runs, as calls answer it
-pub runs-on : (xs : List ℕ) (at : ℕ) (yss zss : List (List ℕ)) {m r : ℕ} {ps rs : List ℕ} → (m ≡ afterAll xs at yss) × (ps ≡ overAll xs at yss)
-    → (r ≡ afterAll ps m zss) × (rs ≡ overAll ps m zss) → (r ≡ afterAll xs at (yss ++ zss)) × (rs ≡ overAll xs at (yss ++ zss))
+-- the runs yss were put on the page xs at a place, as a call answers it: r is the place after them, and the page is rs
+abbrev pub PutAll : List ℕ → ℕ → ℕ → List ℕ → List (List ℕ) → Type 0
+PutAll xs at r rs yss = (r ≡ afterAll xs at yss) × (rs ≡ overAll xs at yss)
+
+-- runs put after runs
+pub runs-on : (xs : List ℕ) (at : ℕ) (yss zss : List (List ℕ)) {m r : ℕ} {ps rs : List ℕ} → PutAll xs at m ps yss → PutAll ps m r rs zss
+    → PutAll xs at r rs (yss ++ zss)
 runs-on xs at [] zss p q =
     (q .0 ∙ ap₂ (λ (ps : List ℕ) (m : ℕ). afterAll ps m zss) (p .1) (p .0), q .1 ∙ ap₂ (λ (ps : List ℕ) (m : ℕ). overAll ps m zss) (p .1) (p .0))
 runs-on xs at (ys ∷ yss) zss p q = runs-on (over xs at ys) (after xs at ys) yss zss p q

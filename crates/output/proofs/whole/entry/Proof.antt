@@ -1,17 +1,13 @@
 -- `output::whole::entry` meets its contract: nothing, or the line of the feature that the entry is. Assumes nothing.
 use Prim.Native.Nat.{ℕ}
-use mathlib.Core.Path.{_≡_, refl, sym, ap, subst, _∙_}
+use mathlib.Core.Path.{refl, sym, ap, subst, _∙_}
 use mathlib.Core.List.{List}
-use Rattle.text.specs.Page.{overAll, afterAll}
+use Rattle.text.proofs.PageLaws.{PutAll}
 use Rattle.listing.specs.Told.{said}
 use Rattle.output.specs.Output.{lineRuns}
 use borrow.Author.Needs.{needs}
 use Rattle.output.proofs.whole.entry.Statement.{statement}
 use Rattle.output.proofs.whole.entry.Tie as tie
-
--- the line with the numbers vs was put on the page
-abbrev Runs : List ℕ → ℕ → ℕ → List ℕ → List ℕ → Type 0
-Runs xs at r rs vs = (r ≡ afterAll xs at (lineRuns vs)) × (rs ≡ overAll xs at (lineRuns vs))
 
 line-of-requires : tie.Need-line-of-requires
 line-of-requires c κs = search needs
@@ -27,7 +23,7 @@ unfolding lineRuns
 returns c =
     let d = c .before .before in
     let a = d .before .before .before .args in
-    subst (Runs (a .page .now) (a .at) (a .at) (a .page .now)) (sym (ap said (c .enum-told .given .1)) ∙ d .line-of .ensures) (refl, refl)
+    subst (λ (vs : List ℕ). PutAll (a .page .now) (a .at) (a .at) (a .page .now) (lineRuns vs)) (sym (ap said (c .enum-told .given .1)) ∙ d .line-of .ensures) (refl, refl)
 
 feature-requires : tie.Need-feature-requires
 feature-requires c κs = search needs
@@ -40,7 +36,7 @@ returns-2 c =
     let d = c .before .before .before .before .before .before .before in
     let a = d .before .before .before .args in
     let f = c .before .before .feature in
-    subst (Runs (a .page .now) (a .at) (f .result) (f .last .0)) (sym (ap said (c .before .before .before .before .before .f .given .1)) ∙ d .line-of .ensures) (f .ensures)
+    subst (λ (vs : List ℕ). PutAll (a .page .now) (a .at) (f .result) (f .last .0) (lineRuns vs)) (sym (ap said (c .before .before .before .before .before .f .given .1)) ∙ d .line-of .ensures) (f .ensures)
 
 pub entry-spec : {M : Type 1} → statement M
 entry-spec =
