@@ -1,11 +1,12 @@
 // Writes of a limit's fields, in a capture with one feature and two domains, a package and a memory.
-use crate::lines::end;
-use crate::lines::hex;
-use crate::lines::number;
-use crate::lines::outcome;
-use crate::lines::text;
+use libc::STDOUT_FILENO;
+use report::answers::outcome;
 use stores::bytes::store_u16;
 use stores::bytes::store_u64;
+use text::numerals::labelled;
+use text::numerals::labelled_hex;
+use text::page::put;
+use text::page::shown;
 use words::bytes::u64_at;
 
 // Vendor word, and at 0x100 the VSEC structure: 1 entry of 2 words, tBIR 1, table at 2,000.
@@ -22,12 +23,13 @@ pub(crate) fn set_domains(bar: &mut [u8]) {
     store_u64(bar, 6224, 0x0000_0387_0001_0401);
 }
 
-fn field_name(which: u32) {
+// A field by its number, with the number to be written.
+fn field(page: &mut [u8], at: usize, which: u32, value: u64) -> usize {
     match which {
-        0 => text(b", PWR_LIM "),
-        1 => text(b", TIME_WINDOW "),
-        2 => text(b", PWR_LIM_EN "),
-        _ => text(b", LOCK "),
+        0 => labelled(page, at, b", PWR_LIM ", value),
+        1 => labelled(page, at, b", TIME_WINDOW ", value),
+        2 => labelled(page, at, b", PWR_LIM_EN ", value),
+        _ => labelled(page, at, b", LOCK ", value),
     }
 }
 
@@ -40,18 +42,22 @@ fn write(
     which: u32,
     value: u64,
 ) {
-    number(b"domain ", n);
-    number(b", limit ", limit as u64);
-    field_name(which);
-    number(b"", value);
-    outcome(writes::write::write(config, 0, low, 1, high, 0, n, limit, which, value));
+    let mut page = [0u8; 128];
+    let mut at = labelled(&mut page, 0, b"domain ", n);
+    at = labelled(&mut page, at, b", limit ", limit as u64);
+    at = field(&mut page, at, which, value);
+    let came = writes::write::write(config, 0, low, 1, high, 0, n, limit, which, value);
+    at = outcome(&mut page, at, came);
+    io::write_all(STDOUT_FILENO, shown(&page, at));
 }
 
 // What both captures hold where the socket's first limit stands.
 fn held(low: &[u8], high: &[u8]) {
-    hex(b"  at 6112 BAR 0 holds 0x", u64_at(low, 6112));
-    hex(b", BAR 1 holds 0x", u64_at(high, 6112));
-    end();
+    let mut page = [0u8; 128];
+    let mut at = labelled_hex(&mut page, 0, b"  at 6112 BAR 0 holds 0x", u64_at(low, 6112));
+    at = labelled_hex(&mut page, at, b", BAR 1 holds 0x", u64_at(high, 6112));
+    at = put(&mut page, at, b"\n");
+    io::write_all(STDOUT_FILENO, shown(&page, at));
 }
 
 // Document 01's three writes: PWR_LIM, TIME_WINDOW and PWR_LIM_EN of the socket's first limit.

@@ -1,7 +1,6 @@
 // Document 01's bench cases of limit writes that are not in the table of the crate stamp: each is asked of the code, and one line says what
 // was asked and what came.
 mod limits;
-mod lines;
 
 // Two BAR captures with the same bytes, of which tBIR names the second.
 fn main() {

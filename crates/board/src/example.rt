@@ -1,14 +1,16 @@
 // The RAPL domains of document 001's register layout example, socket, memory and platform, in a capture with one feature.
-use crate::lines::content;
-use crate::lines::end;
-use crate::lines::hex;
-use crate::lines::number;
-use crate::lines::refused;
-use crate::lines::value;
 use domains::headers::Known;
+use libc::STDOUT_FILENO;
 use rapl::lookups;
+use report::answers::content;
+use report::answers::refusal;
+use report::answers::value;
 use stores::bytes::store_u16;
 use stores::bytes::store_u64;
+use text::numerals::labelled;
+use text::numerals::labelled_hex;
+use text::page::put;
+use text::page::shown;
 
 // Vendor word, and at 0x100 the VSEC structure: 1 entry of 2 words, tBIR 1, table at 2,000.
 pub(crate) fn set_config(config: &mut [u8]) {
@@ -32,15 +34,20 @@ pub(crate) fn set_domains(bar: &mut [u8]) {
 }
 
 fn domain<'a>(config: &[u8], low: &'a [u8], high: &'a [u8], n: u64) {
-    number(b"domain ", n);
+    let mut page = [0u8; 128];
+    let mut at = labelled(&mut page, 0, b"domain ", n);
     match lookups::domain(config, 0, low, 1, high, 0, n) {
         Known::Domain(h) => {
-            number(b": type ", h.kind);
-            number(b", parent ", h.parent);
-            hex(b", FLAGS 0x", h.flags);
-            end();
+            at = labelled(&mut page, at, b": type ", h.kind);
+            at = labelled(&mut page, at, b", parent ", h.parent);
+            at = labelled_hex(&mut page, at, b", FLAGS 0x", h.flags);
+            at = put(&mut page, at, b"\n");
+            io::write_all(STDOUT_FILENO, shown(&page, at));
         }
-        Known::Refused(k) => refused(k),
+        Known::Refused(k) => {
+            at = refusal(&mut page, at, k);
+            io::write_all(STDOUT_FILENO, shown(&page, at));
+        }
     }
 }
 
@@ -53,9 +60,15 @@ pub(crate) fn domains<'a>(config: &[u8], low: &'a [u8], high: &'a [u8]) {
 }
 
 fn register<'a>(config: &[u8], low: &'a [u8], high: &'a [u8], n: u64, r: u32) {
-    number(b"register ", r as u64);
-    number(b" of domain ", n);
-    content(lookups::register(config, 0, low, 1, high, 0, n, r));
+    let mut page = [0u8; 128];
+    let mut at = labelled(&mut page, 0, b"register ", r as u64);
+    at = labelled(&mut page, at, b" of domain ", n);
+    at = content(
+        &mut page,
+        at,
+        lookups::register(config, 0, low, 1, high, 0, n, r),
+    );
+    io::write_all(STDOUT_FILENO, shown(&page, at));
 }
 
 // The socket's units, energy status and limit info; the memory has no second limit; no domain has a register 16.
@@ -68,8 +81,10 @@ pub(crate) fn registers<'a>(config: &[u8], low: &'a [u8], high: &'a [u8]) {
 }
 
 fn chain<'a>(config: &[u8], low: &'a [u8], high: &'a [u8], n: u64) {
-    number(b"steps to the root from domain ", n);
-    value(lookups::chain(config, 0, low, 1, high, 0, n));
+    let mut page = [0u8; 128];
+    let mut at = labelled(&mut page, 0, b"steps to the root from domain ", n);
+    at = value(&mut page, at, lookups::chain(config, 0, low, 1, high, 0, n));
+    io::write_all(STDOUT_FILENO, shown(&page, at));
 }
 
 pub(crate) fn chains<'a>(config: &[u8], low: &'a [u8], high: &'a [u8]) {

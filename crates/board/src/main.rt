@@ -1,7 +1,6 @@
 // Document 01's bench cases of RAPL domains that are not in the table of the crate stamp, over document 001's register layout example: each
 // is asked of the code, and one line says what was asked and what came.
 mod example;
-mod lines;
 
 // The first BAR capture is empty; tBIR names the second.
 fn main() {

@@ -1,6 +1,5 @@
 // Document 000's layout sheet as a capture, and document 01's bench cases over it that are not in the table of the crate stamp: each is
 // asked of the code, and one line says what was asked and what came.
-mod lines;
 mod table;
 
 // The configuration space of the sheet, and two BAR captures with the same bytes, of which tBIR names the second.

@@ -1,15 +1,18 @@
 // The layout sheet of documents 000 and 001 as a capture: ten features, their banks and the places of their registers.
-use crate::lines::hex;
-use crate::lines::number;
-use crate::lines::place;
-use crate::lines::text;
-use crate::lines::value;
 use counts::valid::valid_count;
 use discovery::table::discover;
 use features::instances::feature;
+use libc::STDOUT_FILENO;
+use places::found::Found;
 use registers::lookup::register_place;
+use report::answers::place;
+use report::answers::value;
 use stores::bytes::store_u16;
 use stores::bytes::store_u64;
+use text::numerals::labelled;
+use text::numerals::labelled_hex;
+use text::page::put;
+use text::page::shown;
 
 // Vendor word, and at 0x100 the VSEC structure: 10 entries of 2 words, tBIR 1, table at 2,000.
 pub(crate) fn set_config(config: &mut [u8]) {
@@ -45,19 +48,41 @@ pub(crate) fn set_table(bar: &mut [u8]) {
     store_u64(bar, 10264, 0xFFFF_FFFF_FFFF_FFFF);
 }
 
+fn line(words: &[u8], found: Found) {
+    let mut page = [0u8; 128];
+    let mut at = put(&mut page, 0, words);
+    at = place(&mut page, at, found);
+    io::write_all(STDOUT_FILENO, shown(&page, at));
+}
+
 // The same captures under three pairs of BAR numbers: tBIR 1 is one of them, is neither, and is beside a number above 5.
 pub(crate) fn discovery<'a>(config: &[u8], low: &'a [u8], high: &'a [u8]) {
-    text(b"table of the sheet, BARs 0 and 1");
-    place(discover(config, 0, low, 1, high));
-    text(b"table of the sheet, BARs 2 and 3");
-    place(discover(config, 2, low, 3, high));
-    text(b"table of the sheet, BARs 1 and 6");
-    place(discover(config, 1, low, 6, high));
+    line(
+        b"table of the sheet, BARs 0 and 1",
+        discover(config, 0, low, 1, high),
+    );
+    line(
+        b"table of the sheet, BARs 2 and 3",
+        discover(config, 2, low, 3, high),
+    );
+    line(
+        b"table of the sheet, BARs 1 and 6",
+        discover(config, 1, low, 6, high),
+    );
 }
 
 fn bank<'a>(config: &[u8], low: &'a [u8], high: &'a [u8], id: u64) {
-    hex(b"feature 0x", id);
-    place(feature(config, 0, low, 1, high, id));
+    let mut page = [0u8; 128];
+    let mut at = labelled_hex(&mut page, 0, b"feature 0x", id);
+    at = place(&mut page, at, feature(config, 0, low, 1, high, id));
+    io::write_all(STDOUT_FILENO, shown(&page, at));
+}
+
+fn valid<'a>(config: &[u8], low: &'a [u8], high: &'a [u8], id: u64) {
+    let mut page = [0u8; 128];
+    let mut at = labelled_hex(&mut page, 0, b"valid instances of feature 0x", id);
+    at = value(&mut page, at, valid_count(config, 0, low, 1, high, id));
+    io::write_all(STDOUT_FILENO, shown(&page, at));
 }
 
 pub(crate) fn features<'a>(config: &[u8], low: &'a [u8], high: &'a [u8]) {
@@ -68,15 +93,20 @@ pub(crate) fn features<'a>(config: &[u8], low: &'a [u8], high: &'a [u8]) {
     bank(config, low, high, 0xFD);
     bank(config, low, high, 0x06);
     bank(config, low, high, 0x80);
-    text(b"valid instances of feature 0x1");
-    value(valid_count(config, 0, low, 1, high, 0x01));
+    valid(config, low, high, 0x01);
 }
 
 fn register<'a>(config: &[u8], low: &'a [u8], high: &'a [u8], id: u64, n: usize, offset: usize) {
-    hex(b"register of feature 0x", id);
-    number(b", instance ", n as u64);
-    hex(b", offset 0x", offset as u64);
-    place(register_place(config, 0, low, 1, high, id, n, offset));
+    let mut page = [0u8; 128];
+    let mut at = labelled_hex(&mut page, 0, b"register of feature 0x", id);
+    at = labelled(&mut page, at, b", instance ", n as u64);
+    at = labelled_hex(&mut page, at, b", offset 0x", offset as u64);
+    at = place(
+        &mut page,
+        at,
+        register_place(config, 0, low, 1, high, id, n, offset),
+    );
+    io::write_all(STDOUT_FILENO, shown(&page, at));
 }
 
 // PMAX; CSR_ALL, whose first register is 0x110, so that its register 0x118 has the offset 8; an invalid instance of PEM, one that
