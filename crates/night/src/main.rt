@@ -7,60 +7,67 @@ use channel::calls::Reading;
 use channel::record::Channel;
 use energy::hall;
 use libc::STDOUT_FILENO;
+use places::found::Value;
+use report::answers::refusal;
+use report::answers::value;
+use text::numerals::labelled;
+use text::page::put;
+use text::page::shown;
 
-fn say(words: &[u8], n: u64) {
-    io::write_all(STDOUT_FILENO, words);
-    io::print_decimal(STDOUT_FILENO, n);
+fn seen_text(page: &mut [u8], at: usize, seen: Reading) -> usize {
+    let tick = labelled(page, at, b" tick ", seen.tick);
+    labelled(page, tick, b" register ", seen.status)
 }
 
-fn say_seen(seen: Reading) {
-    say(b" tick ", seen.tick);
-    say(b" register ", seen.status);
+fn opening_text(page: &mut [u8], at: usize, n: usize, asked: Opening) -> usize {
+    let channel = labelled(page, at, b"open ", n as u64);
+    let unit = labelled(page, channel, b" unit ", asked.unit as u64);
+    let gap = labelled(page, unit, b" gap ", asked.gap as u64);
+    let seen = asked.seen;
+    seen_text(page, gap, seen)
 }
 
-fn say_call(n: usize, call: Call) {
+// A call, at the start of its line.
+fn call_text(page: &mut [u8], n: usize, call: Call) -> usize {
     match call {
-        Call::Open(asked) => {
-            say(b"open ", n as u64);
-            say(b" unit ", asked.unit as u64);
-            say(b" gap ", asked.gap as u64);
-            let seen = asked.seen;
-            say_seen(seen);
-        }
+        Call::Open(asked) => opening_text(page, 0, n, asked),
         Call::Read(seen) => {
-            say(b"read ", n as u64);
-            say_seen(seen);
+            let at = labelled(page, 0, b"read ", n as u64);
+            seen_text(page, at, seen)
         }
         Call::Resume(seen) => {
-            say(b"resume ", n as u64);
-            say_seen(seen);
+            let at = labelled(page, 0, b"resume ", n as u64);
+            seen_text(page, at, seen)
         }
-        Call::Close => say(b"close ", n as u64),
-        Call::Ask => say(b"total ", n as u64),
+        Call::Close => labelled(page, 0, b"close ", n as u64),
+        Call::Ask => labelled(page, 0, b"total ", n as u64),
     }
 }
 
-fn say_answer(answer: Answered) {
+// What came, at the end of its line.
+fn answer_text(page: &mut [u8], at: usize, answer: Answered) -> usize {
     match answer {
-        Answered::Accepted => {
-            io::write_all(STDOUT_FILENO, b": accepted\n");
-        }
-        Answered::Total(t) => {
-            say(b": ", t);
-            io::write_all(STDOUT_FILENO, b"\n");
-        }
-        Answered::Refused(n) => {
-            say(b": refused ", n as u64);
-            io::write_all(STDOUT_FILENO, b"\n");
-        }
+        Answered::Accepted => put(page, at, b": accepted\n"),
+        Answered::Total(t) => value(page, at, Value::Is(t)),
+        Answered::Refused(n) => refusal(page, at, n),
     }
+}
+
+// Words, a number, and what came.
+fn line(words: &[u8], n: u64, answer: Answered) {
+    let mut page = [0u8; 128];
+    let mut at = labelled(&mut page, 0, words, n);
+    at = answer_text(&mut page, at, answer);
+    io::write_all(STDOUT_FILENO, shown(&page, at));
 }
 
 fn run(channels: [Channel; 64], n: usize, call: Call) -> [Channel; 64] {
-    say_call(n, call);
     let after = hall::call_on(channels, n, call);
     let answer = after.answer;
-    say_answer(answer);
+    let mut page = [0u8; 128];
+    let mut at = call_text(&mut page, n, call);
+    at = answer_text(&mut page, at, answer);
+    io::write_all(STDOUT_FILENO, shown(&page, at));
     after.channels
 }
 
@@ -125,15 +132,17 @@ fn bench(channels: [Channel; 64]) -> [Channel; 64] {
 }
 
 fn hall_total(channels: [Channel; 64], unit: u8) {
-    say(b"hall total of unit ", unit as u64);
-    say_answer(hall::hall_total(channels, unit));
+    line(
+        b"hall total of unit ",
+        unit as u64,
+        hall::hall_total(channels, unit),
+    );
 }
 
 fn main() {
     let c12 = night();
     let c13 = run(c12, 3, Call::Ask);
-    say(b"wattmeter ", 3);
-    say_answer(Answered::Total(wattmeter()));
+    line(b"wattmeter ", 3, Answered::Total(wattmeter()));
     let c14 = run(c13, 5, Call::Ask);
     hall_total(c14, 14);
     hall_total(bench(c14), 14);
