@@ -1,6 +1,6 @@
 -- The count of valid instances is the number of accepted lookups. Assumes nothing.
-use Prim.Native.Nat.{ℕ, zero, suc, _+_, _<_}
-use mathlib.Core.Path.{_≡_, refl, sym, ap, ap₂, _∙_}
+use Prim.Native.Nat.{ℕ, _<_}
+use mathlib.Core.Path.{_≡_, refl, sym, ap, _∙_}
 use mathlib.Core.Bool.{Bool, true, false, not}
 use mathlib.Core.List.{[], _∷_}
 use native.Mathlib.Omega.{arith}
@@ -8,19 +8,13 @@ use borrow.Author.Tests.{lt-leb}
 use lib.Dec.{eqb}
 use Rattle.words.specs.Answers.{gives, first}
 use Rattle.words.proofs.AnswerLaws.{unless-number, first-skip, two-pass}
-use Rattle.fields.specs.Masks.{one, howMany}
-use Rattle.fields.proofs.MaskLaws.{many-le}
+use Rattle.fields.specs.Masks.{howMany}
+use Rattle.fields.proofs.MaskLaws.{many-le, many-same}
 use Rattle.discovery.specs.Discovery.{Capture, barOf}
 use Rattle.features.specs.Places.{bankFor, sizeFor, featureNumber, startFor, invalidAt, unsound, instanceNumber}
 use Rattle.counts.specs.Valid.{validIn, validCountIn, countOf}
 use Rattle.counts.specs.Facts.{found, CountFact}
 use Rattle.counts.proofs.CountLaws.{count-found}
-
--- two tests that agree below n pass as many numbers
-many-same : (p q : ℕ → Bool) (n : ℕ) → ((k : ℕ) → k < n → p k ≡ q k) → howMany p n ≡ howMany q n
-unfolding howMany
-many-same p q zero h = refl
-many-same p q (suc n) h = ap₂ (λ (b : Bool) (m : ℕ). one b + m) (h n (omega arith)) (many-same p q n (λ k l. h k (omega arith)))
 
 -- where 12 is past, an instance is found exactly if it does not read all ones
 last-passes : (b : Bool) → not b ≡ eqb (first ((b, 13) ∷ [])) 0

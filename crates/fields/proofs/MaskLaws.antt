@@ -65,6 +65,12 @@ module _ (p : ℕ → Bool) where
   many-le zero = omega arith
   many-le (suc n) = omega (arith, many-le n, one-le (p n))
 
+-- two tests that agree below n pass as many numbers
+pub many-same : (p q : ℕ → Bool) (n : ℕ) → ((k : ℕ) → k < n → p k ≡ q k) → howMany p n ≡ howMany q n
+unfolding howMany
+many-same p q zero h = refl
+many-same p q (suc n) h = ap₂ (λ (b : Bool) (m : ℕ). one b + m) (h n (omega arith)) (many-same p q n (λ k l. h k (omega arith)))
+
 -- the count up to m + n: those below m, and then n more
 pub many-add : (p : ℕ → Bool) (m n : ℕ) → howMany p (m + n) ≡ howMany p m + howMany (onwards p m) n
 unfolding howMany

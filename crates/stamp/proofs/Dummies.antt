@@ -7,7 +7,7 @@ use native.Mathlib.Omega.{arith}
 use lib.ListN.{getD}
 use Rattle.words.specs.Answers.{Answer, gives, valueIn}
 use Rattle.words.specs.Bytes.{numberAt}
-use Rattle.words.proofs.AnswerLaws.{unless-passes}
+use Rattle.words.proofs.AnswerLaws.{unless-passes, unless-both}
 use Rattle.fields.specs.Fields.{field}
 use Rattle.fields.specs.Masks.{howMany}
 use Rattle.discovery.specs.Discovery.{Capture, barOf}
@@ -25,7 +25,6 @@ use Rattle.writes.proofs.NextFact.{next-fact}
 use Rattle.writes.proofs.WriteFact.{captures-fact, write-fact}
 use Rattle.stamp.specs.Table.{blank, board}
 use Rattle.stamp.specs.Dummies.{Permitted, PermitsExactly, StoresOf, CountsOf, ChainsOf, OfAWrite, twoLines, family, DummiesFall}
-use Rattle.stamp.proofs.Roads.{or-gives}
 use Rattle.stamp.proofs.Worked.{blank-accepted, board-permitted, board-zero, board-bytes, counted, two-counted, climbed, two-climbed}
 
 -- ---- ours
@@ -40,7 +39,7 @@ our-permits c i n limit which value = (there, back)
     there : writeNumber c i n limit which value ≡ 0 → Permitted c i n limit which value
     there z =
         let y = captures-fact c i n limit which value .same-answer .0 z in
-        let g = or-gives (instanceNumber c 0 i) (nextOf part n limit which value) (y .1) in
+        let g = unless-both (instanceNumber c 0 i) (nextOf part n limit which value) (y .1) in
         let p = next-fact part n limit which value .content (y .0) .0 (g .1) in
         record { instance-found = g .0; sound = p .0; opened = p .1 .0; narrow = p .1 .1; unlocked = p .1 .2 }
 

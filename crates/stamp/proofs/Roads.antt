@@ -1,13 +1,13 @@
 -- The place formula, and the roads to one register. Assumes nothing.
-use Prim.Native.Nat.{ℕ, zero, suc, _+_, _*_, _≤_}
+use Prim.Native.Nat.{ℕ, _+_, _*_, _≤_}
 use mathlib.Core.Path.{_≡_, refl, sym, ap, _∙_}
 use mathlib.Core.List.{List, [], _∷_}
 use native.Mathlib.Nat.{mul-assoc}
 use native.Mathlib.Omega.{arith}
 use lib.ListN.{length, drop, length-take}
-use Rattle.words.specs.Answers.{Answer, gives, unless}
+use Rattle.words.specs.Answers.{gives, unless}
 use Rattle.words.specs.Bytes.{numberAt}
-use Rattle.words.proofs.AnswerLaws.{unless-passes}
+use Rattle.words.proofs.AnswerLaws.{unless-both, unless-passes}
 use Rattle.words.proofs.NumberLaws.{number-part}
 use Rattle.banks.specs.Faults.{bankOf, bankIn}
 use Rattle.banks.specs.Facts.{Filled}
@@ -69,11 +69,6 @@ formula-fact c id i at =
 
 -- ---- the roads
 
--- values come only where the number before them is 0
-pub or-gives : (n : ℕ) (a : Answer) {ys : List ℕ} → unless n a ≡ gives ys → (n ≡ 0) × (a ≡ gives ys)
-or-gives zero a e = (refl, e)
-or-gives (suc n) a e = let z : _≡_ {A = ℕ} 0 1 = cc in absurd (omega arith)
-
 same-offset : (n r : ℕ) → registerPlace n r ≡ domainOffset n r
 same-offset n r = omega arith
 
@@ -91,7 +86,7 @@ module _ (c : Capture) (i n : ℕ) where
   module _ (r x : ℕ) (e : contentFor c i n r ≡ gives (x ∷ [])) where
     both : (instanceNumber c 0 i ≡ 0) × (contentOf part n r ≡ gives (x ∷ []))
     unfolding contentFor
-    both = or-gives (instanceNumber c 0 i) (contentOf part n r) e
+    both = unless-both (instanceNumber c 0 i) (contentOf part n r) e
 
     inside : registerPlace n r + 8 ≤ length part
     inside =
@@ -115,7 +110,7 @@ module _ (c : Capture) (i n : ℕ) where
 
     asked : (instanceNumber c 0 i ≡ 0) × (nextOf part n limit which value ≡ gives (permitted .0 ∷ []))
     unfolding nextFor
-    asked = or-gives (instanceNumber c 0 i) (nextOf part n limit which value) (permitted .1)
+    asked = unless-both (instanceNumber c 0 i) (nextOf part n limit which value) (permitted .1)
 
     stored-in : registerNumber c 0 i (domainOffset n (limit + 1)) ≡ 0
     stored-in = reached (limit + 1) (asked .0) (next-inside part n limit which value (given-by part n limit which value (asked .1) .0))

@@ -17,9 +17,14 @@ unless-number zero a h = absurd (h refl)
 unless-number (suc n) a h = refl
 
 -- values come back only where the number is 0, and they are the ones
+pub unless-both : (n : ℕ) (a : Answer) {ys : List ℕ} → unless n a ≡ gives ys → (n ≡ 0) × (a ≡ gives ys)
+unless-both zero a e = (refl, e)
+unless-both (suc n) a e = let z : _≡_ {A = ℕ} 0 1 = cc in absurd (omega arith)
+
 pub unless-gives : (n : ℕ) {xs ys : List ℕ} → unless n (gives xs) ≡ gives ys → (n ≡ 0) × (xs ≡ ys)
-unless-gives zero e = (refl, cc)
-unless-gives (suc n) e = let z : _≡_ {A = ℕ} 0 1 = cc in absurd (omega arith)
+unless-gives n {xs} {ys} e =
+    let u = unless-both n (gives xs) e in
+    let g : gives xs ≡ gives ys = u .1 in (u .0, cc)
 
 -- a refusal comes back only where the number is not 0, and it is that number
 pub unless-refused : (n : ℕ) (xs : List ℕ) {m : ℕ} → unless n (gives xs) ≡ refused m → (n ≡ m) × (m ≢ 0)
