@@ -1,6 +1,8 @@
 // The RAPL domains of document 001's register layout example, socket, memory and platform, in a capture with one feature.
+use crate::caller::limit_1;
 use domains::headers::Known;
 use libc::STDOUT_FILENO;
+use places::found::Value;
 use rapl::lookups;
 use report::answers::content;
 use report::answers::refusal;
@@ -19,14 +21,20 @@ pub(crate) fn set_config(config: &mut [u8]) {
     store_u64(config, 0x108, 0x0000_07D1_0201_0000);
 }
 
-// The entry: one instance of 96 words, 4 KiB from the table. Headers with the registers that the example lists, at 0, 0x80 and 0x100; 001's default units; the socket's energy status and limit
-// info. The platform is a root, the socket is under it and the memory under the socket.
-pub(crate) fn set_domains(bar: &mut [u8]) {
-    store_u64(bar, 2000, 0x0001_0004_0060_0100);
+// The socket: its header, with the registers that the example lists, 001's default units, a first limit, energy status and limit info.
+fn set_socket(bar: &mut [u8]) {
     store_u64(bar, 6096, 0x0000_03AF_0201_0201);
     store_u64(bar, 6104, 0xA383);
+    store_u64(bar, 6112, 0x4000_0000_01B8_03E8);
     store_u64(bar, 6152, 0x1234_5678_FFFF_FFF0);
     store_u64(bar, 6168, 0xFFFF_FFFF_FFFF_FFFF);
+}
+
+// The entry: one instance of 96 words, 4 KiB from the table; the domains at 0, 0x80 and 0x100 of it. The platform is a root, the socket is
+// under it and the memory under the socket.
+pub(crate) fn set_domains(bar: &mut [u8]) {
+    store_u64(bar, 2000, 0x0001_0004_0060_0100);
+    set_socket(bar);
     store_u64(bar, 6224, 0x0000_0387_0001_0401);
     store_u64(bar, 6232, 0xA383);
     store_u64(bar, 6352, 0x0000_078F_0201_0101);
@@ -91,4 +99,21 @@ pub(crate) fn chains<'a>(config: &[u8], low: &'a [u8], high: &'a [u8]) {
     chain(config, low, high, 0);
     chain(config, low, high, 1);
     chain(config, low, high, 2);
+}
+
+fn limit<'a>(config: &[u8], low: &'a [u8], high: &'a [u8], n: u64) {
+    let mut page = [0u8; 128];
+    let mut at = labelled(&mut page, 0, b"PWR_LIM of limit 1 of domain ", n);
+    at = value(
+        &mut page,
+        at,
+        Value::Is(limit_1(config, 0, low, 1, high, n)),
+    );
+    io::write_all(STDOUT_FILENO, shown(&page, at));
+}
+
+// The socket has one; there is no domain 3.
+pub(crate) fn limits<'a>(config: &[u8], low: &'a [u8], high: &'a [u8]) {
+    limit(config, low, high, 0);
+    limit(config, low, high, 3);
 }

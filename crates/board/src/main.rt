@@ -1,5 +1,6 @@
-// Document 01's bench cases of RAPL domains that are not in the table of the crate stamp, over document 001's register layout example: each
-// is asked of the code, and one line says what was asked and what came.
+// Domains, registers and parent chains of document 001's register layout example. The cases are document 01's that are not in the table of
+// the crate stamp: each is asked of the code, and one line says what was asked and what came.
+mod caller;
 mod example;
 
 // The first BAR capture is empty; tBIR names the second.
@@ -12,4 +13,5 @@ fn main() {
     example::domains(&config, &low, &high);
     example::registers(&config, &low, &high);
     example::chains(&config, &low, &high);
+    example::limits(&config, &low, &high);
 }

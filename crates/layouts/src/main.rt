@@ -1,5 +1,5 @@
-// Document 01's bench cases of structures that are not in the table of the crate stamp: each is asked of the code, and one line says what
-// was asked and what came.
+// The VSEC structure and a PFS entry, read and written back. The cases are document 01's: each is asked of the code, and one line says what was
+// asked and what came.
 mod structures;
 
 fn main() {

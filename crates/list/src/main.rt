@@ -1,4 +1,4 @@
-// Reads a capture from standard input and lists its features, or says why it does not.
+// Lists the features of a capture on standard input, or says why it does not.
 use libc::STDIN_FILENO;
 use libc::STDOUT_FILENO;
 use places::found::Value;

@@ -1,5 +1,6 @@
-// A worked night: the calls of energy's specs/Night.antt, one line for each with what came, then the totals beside the
-// wattmeter's sum of the whole counts, which no call is handed; and after it document 01's bench cases of a gap and of a turnover.
+// A worked night of energy readings, with the wattmeter's sum beside the meter's. The calls are those of energy's specs/Night.antt, one line for
+// each with what came; the wattmeter sums the whole counts, which no call is handed. After it document 01's bench cases of a gap and of a
+// turnover.
 use channel::calls::Answered;
 use channel::calls::Call;
 use channel::calls::Opening;
