@@ -1,5 +1,5 @@
-// Power limits written field by field, permitted and refused, and what both captures hold then. The cases are document 01's that are not
-// in the table of the crate stamp: each is asked of the code, and one line says what was asked and what came.
+// Power limits written field by field, permitted and refused, and what both captures hold then. Document 01's limit case is run here through
+// the call that stores, with refusals beside it: each is asked of the code, and one line says what was asked and what came.
 mod limits;
 
 // Two BAR captures with the same bytes, of which tBIR names the second.

@@ -1,5 +1,4 @@
-// A caller's example, as README shows it: a capture in, the first power limit of a domain out, in the domain's power units; 0 where it
-// cannot be read.
+// A caller's example, as README shows it: a capture in, the first power limit of a domain out, in the domain's power units, or the refusal.
 use limits::limit;
 use places::found::Value;
 use rapl::lookups;
@@ -11,9 +10,10 @@ pub(crate) fn limit_1<'a>(
     hi: u8,
     high: &'a [u8],
     n: u64,
-) -> u64 {
-    let Value::Is(register) = lookups::register(config, lo, low, hi, high, 0, n, 2) else {
-        return 0;
+) -> Value {
+    let came = lookups::register(config, lo, low, hi, high, 0, n, 2);
+    let Value::Is(register) = came else {
+        return came;
     };
-    limit::read(register).power
+    Value::Is(limit::read(register).power)
 }

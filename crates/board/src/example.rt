@@ -2,7 +2,6 @@
 use crate::caller::limit_1;
 use domains::headers::Known;
 use libc::STDOUT_FILENO;
-use places::found::Value;
 use rapl::lookups;
 use report::answers::content;
 use report::answers::refusal;
@@ -104,11 +103,7 @@ pub(crate) fn chains<'a>(config: &[u8], low: &'a [u8], high: &'a [u8]) {
 fn limit<'a>(config: &[u8], low: &'a [u8], high: &'a [u8], n: u64) {
     let mut page = [0u8; 128];
     let mut at = labelled(&mut page, 0, b"PWR_LIM of limit 1 of domain ", n);
-    at = value(
-        &mut page,
-        at,
-        Value::Is(limit_1(config, 0, low, 1, high, n)),
-    );
+    at = value(&mut page, at, limit_1(config, 0, low, 1, high, n));
     io::write_all(STDOUT_FILENO, shown(&page, at));
 }
 

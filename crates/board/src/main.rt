@@ -1,5 +1,5 @@
-// Domains, registers and parent chains of document 001's register layout example. The cases are document 01's that are not in the table of
-// the crate stamp: each is asked of the code, and one line says what was asked and what came.
+// Domains, registers and parent chains of document 001's register layout example. Each question is asked of the code, and one line says what
+// was asked and what came.
 mod caller;
 mod example;
 

@@ -36,8 +36,8 @@ pub record DomainFact (s : List ℕ) (n : ℕ) : Type 0 where
   pub missing : (domainNumber s n ≡ 12) ↔ (There s n → ⊥)
   pub unused : (domainNumber s n ≡ 15) ↔ (There s n × (headerIn s n .kind ≡ 0))
   pub unsound : (domainNumber s n ≡ 16) ↔ (There s n × (headerIn s n .kind ≢ 0) × (One s n → ⊥))
-  pub sound : (domainNumber s n ≡ 0) ↔ (There s n × (headerIn s n .kind ≢ 0) × One s n)
-  pub answer : (domainOf s n ≡ gives (values (headerIn s n))) ↔ (domainNumber s n ≡ 0)
+  pub sound : Sound s n ↔ (There s n × (headerIn s n .kind ≢ 0) × One s n)
+  pub answer : (domainOf s n ≡ gives (values (headerIn s n))) ↔ Sound s n
 
 -- Two answers that say the same are the same.
 abbrev pub ToldOnce : Known → Known → Type 0

@@ -1,4 +1,4 @@
-// The VSEC structure and a PFS entry, read and written back. The cases are document 01's: each is asked of the code, and one line says what was
+// The VSEC structure and the PFS entry of document 01's bench cases, read and written back. Each is asked of the code, and one line says what was
 // asked and what came.
 mod structures;
 

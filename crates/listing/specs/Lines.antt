@@ -1,6 +1,6 @@
 -- What the program `list` says (document 01, "Bench cases"): `unreadable`, a refusal, or for each entry that is not empty, in table order,
 -- its identifier, its instances, how many are valid, the bytes of one, and where the bank starts.
---   Listing          the three things it can say
+--   Said             the three things it can say: unreadable, a refusal, the table
 --   captureIn s      the capture that a readable input holds
 --   listingOf s      which of the three an input gives
 --   barIn s b        the BAR capture with the number b, empty where the input is unreadable

@@ -1,26 +1,29 @@
 -- The whole listing: its three ways, its lines one by one, and how long it can be. Assumes nothing.
 use Prim.Native.Nat.{ℕ, zero, suc, _+_, _*_, _/_, _%_, _^_, _≤_, _<_}
 use mathlib.Core.Path.{_≡_, refl, sym, ap, ap₂, subst, _∙_}
-use mathlib.Core.Bool.{Bool, true, false, not}
+use mathlib.Core.Bool.{Bool, true, false, cond, not}
 use mathlib.Core.Logic.{_≢_}
 use mathlib.Core.List.{List, [], _∷_, _++_, append-nil}
-use native.Mathlib.Nat.{add-assoc}
+use native.Mathlib.Nat.{zero-add, add-assoc}
 use native.Mathlib.Numerals.{add-one}
 use native.Mathlib.Omega.{arith}
-use borrow.Author.Tests.{ne-eqb, not-true, not-false, ltb-true}
+use borrow.Author.Tests.{ne-eqb, not-true, not-false, ltb-false}
 use lib.Dec.{eqb, ltb}
-use lib.ListN.{length, length-append}
+use lib.ListN.{length, take, drop, length-append}
+use lib.Seq.{take-append-seam, drop-append-seam}
 use Rattle.words.specs.Answers.{Answer, refused, gives, unless}
-use Rattle.words.proofs.AnswerLaws.{unless-number, unless-passes}
+use Rattle.words.proofs.AnswerLaws.{unless-number, unless-passes, first-zero}
 use Rattle.fields.specs.Masks.{one, howMany}
 use Rattle.captures.specs.Layout.{readable}
+use Rattle.text.specs.Page.{over}
+use Rattle.text.proofs.PageLaws.{over-fits}
 use Rattle.text.specs.Numerals.{glyphOf, digits, numeralOf}
 use Rattle.banks.specs.Faults.{bankIn, emptyBank}
 use Rattle.discovery.specs.Discovery.{Capture, birOf, barOf, tableOf, entriesOf, numberOf, discoveryOf}
 use Rattle.discovery.proofs.DiscoveryLaws.{structure-narrow, table-bound, bar-named}
 use Rattle.discovery.proofs.DiscoveryFact.{discovery-small}
 use Rattle.listing.specs.Lines.{Said, unreadable, answers, captureIn, listingOf, barIn, lineOf}
-use Rattle.output.specs.Output.{lineRuns, lineText, linesBelow, refusedText, unreadableText, saidText, textOf, longest}
+use Rattle.output.specs.Output.{lineRuns, lineText, linesBelow, refusedText, unreadableText, saidText, textOf, longest, listNumber, pageLeft}
 use Rattle.output.specs.Facts.{feeds, aFeature, LinesFact, ListingFact}
 use Rattle.listing.proofs.LineLaws.{says-unreadable, says-answer, bar-there, line-none, line-there}
 use Rattle.output.proofs.OutputLaws.{lines-next, line-short, refused-short}
@@ -110,5 +113,20 @@ module _ (s : List ℕ) where
           subst (λ (x : List ℕ). length x ≤ longest) (sym (is-refused e d))
           (omega (arith, refused-short (numberOf (captureIn s)) (omega (arith, discovery-small (captureIn s)))))
 
+  -- a page that is taken: the text at its start, and the rest
+  on-page : (xs : List ℕ) → listNumber xs ≡ 0 → pageLeft xs s ≡ textOf s ++ drop (length (textOf s)) xs
+  unfolding pageLeft
+  on-page xs z =
+      let room : longest ≤ length xs = ltb-false (length xs) longest (first-zero ((ltb (length xs) longest, 25) ∷ []) tt z .0) in
+      ap (λ (m : ℕ). cond (eqb m 0) (over xs 0 (textOf s)) xs) z
+      ∙ over-fits xs 0 (textOf s) (omega (arith, it-fits (readable s) refl))
+      ∙ ap (λ (m : ℕ). textOf s ++ drop m xs) (zero-add (length (textOf s)))
+
+  it-shows : (xs : List ℕ) → listNumber xs ≡ 0 → take (length (textOf s)) (pageLeft xs s) ≡ textOf s
+  it-shows xs z = ap (take (length (textOf s))) (on-page xs z) ∙ take-append-seam (textOf s) (drop (length (textOf s)) xs)
+
+  it-keeps : (xs : List ℕ) → listNumber xs ≡ 0 → drop (length (textOf s)) (pageLeft xs s) ≡ drop (length (textOf s)) xs
+  it-keeps xs z = ap (drop (length (textOf s))) (on-page xs z) ∙ drop-append-seam (textOf s) (drop (length (textOf s)) xs)
+
   pub listing-fact : ListingFact s
-  listing-fact = record { unreadable = not-read; refused-by = is-refused; accepted = is-accepted; fits = it-fits (readable s) refl }
+  listing-fact = record { unreadable = not-read; refused-by = is-refused; accepted = is-accepted; fits = it-fits (readable s) refl; shows = it-shows; keeps = it-keeps }

@@ -21,7 +21,7 @@ use Rattle.counts.specs.Valid.{validIn, validCountIn}
 use Rattle.text.specs.Page.{over, joined}
 use Rattle.text.proofs.PageLaws.{length-over, PutAll, runs-fact, Stands, stands-none, stands-next}
 use Rattle.text.specs.Numerals.{numeralOf}
-use Rattle.text.proofs.NumeralFact.{numeral-fact}
+use Rattle.text.proofs.NumeralFact.{numeral-facts}
 use Rattle.listing.specs.Lines.{Said, listingOf, lineOf}
 use Rattle.output.specs.Output.{lineRuns, lineText, linesBelow, refusedText, saidText, textOf, longest, listNumber, listOf, pageLeft}
 use Rattle.listing.proofs.LineLaws.{line-none, line-there}
@@ -46,7 +46,7 @@ unfolding validCountIn
 valid-most s start size n = many-le (validIn s start size) n
 
 few : (n k : ℕ) → 1 ≤ k → n < 10 ^ k → n < 2 ^ 64 → length (numeralOf 10 n) ≤ k
-few n k h l w = numeral-fact 10 n (omega arith) (omega arith) w .at-most k h l
+few n k h l w = numeral-facts 10 n (omega arith) (omega arith) w .at-most k h l
 
 numbers-short : (id i v z s : ℕ) → id < 256 → i < 256 → v < 256 → z < 262144 → s < 2 ^ 33 → length (lineText (id ∷ i ∷ v ∷ z ∷ s ∷ [])) ≤ 62
 unfolding lineRuns

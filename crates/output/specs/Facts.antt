@@ -7,13 +7,13 @@ use mathlib.Core.Logic.{_≢_}
 use mathlib.Core.Bool.{Bool, true, false, not}
 use mathlib.Core.List.{List, [], _∷_, _++_}
 use lib.Dec.{eqb}
-use lib.ListN.{length}
+use lib.ListN.{length, take, drop}
 use Rattle.fields.specs.Masks.{one, howMany}
 use Rattle.captures.specs.Layout.{readable}
 use Rattle.banks.specs.Faults.{bankIn, emptyBank}
 use Rattle.discovery.specs.Discovery.{barOf, tableOf, entriesOf, numberOf}
 use Rattle.listing.specs.Lines.{captureIn, lineOf}
-use Rattle.output.specs.Output.{lineText, linesBelow, refusedText, unreadableText, textOf, longest}
+use Rattle.output.specs.Output.{lineText, linesBelow, refusedText, unreadableText, textOf, longest, listNumber, pageLeft}
 
 -- how many lines a text has: its line feeds
 abbrev pub feeds : List ℕ → ℕ
@@ -33,10 +33,12 @@ pub record LinesFact (s : List ℕ) (t k : ℕ) : Type 0 where
   pub as-many : feeds (linesBelow s t k) ≡ howMany (aFeature s t) k
 
 -- What is written for an input: the line `unreadable`, the line of the refusal, or the lines of all entries of the table. It is never longer
--- than the longest listing.
+-- than the longest listing, so a page that is taken shows it whole, and behind it what stood there.
 pub record ListingFact (s : List ℕ) : Type 0 where
   pub unreadable : readable s ≡ false → textOf s ≡ unreadableText
   pub refused-by : readable s ≡ true → numberOf (captureIn s) ≢ 0 → textOf s ≡ refusedText (numberOf (captureIn s))
   pub accepted : readable s ≡ true → numberOf (captureIn s) ≡ 0
       → textOf s ≡ linesBelow (barOf (captureIn s)) (tableOf (captureIn s)) (entriesOf (captureIn s))
   pub fits : length (textOf s) ≤ longest
+  pub shows : (xs : List ℕ) → listNumber xs ≡ 0 → take (length (textOf s)) (pageLeft xs s) ≡ textOf s
+  pub keeps : (xs : List ℕ) → listNumber xs ≡ 0 → drop (length (textOf s)) (pageLeft xs s) ≡ drop (length (textOf s)) xs

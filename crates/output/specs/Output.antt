@@ -18,6 +18,7 @@ use lib.ListN.{length, getD}
 use Rattle.words.specs.Answers.{Answer, refused, gives, unless, first}
 use Rattle.text.specs.Page.{over, joined}
 use Rattle.text.specs.Numerals.{numeralOf}
+use Rattle.text.specs.Words.{lineFeed, atWord}
 use Rattle.listing.specs.Lines.{Said, unreadable, answers, listingOf, barIn, lineOf}
 
 -- ---- the words, in ASCII
@@ -38,16 +39,9 @@ validWord = 32 ∷ 118 ∷ 97 ∷ 108 ∷ 105 ∷ 100 ∷ 32 ∷ []
 abbrev pub sizeWord : List ℕ
 sizeWord = 32 ∷ 115 ∷ 105 ∷ 122 ∷ 101 ∷ 32 ∷ []
 
--- ` at `
-abbrev pub atWord : List ℕ
-atWord = 32 ∷ 97 ∷ 116 ∷ 32 ∷ []
-
 -- `refused `
 abbrev pub refusedWord : List ℕ
 refusedWord = 114 ∷ 101 ∷ 102 ∷ 117 ∷ 115 ∷ 101 ∷ 100 ∷ 32 ∷ []
-
-abbrev pub lineFeed : List ℕ
-lineFeed = 10 ∷ []
 
 -- `unreadable` and a line feed
 abbrev pub unreadableText : List ℕ

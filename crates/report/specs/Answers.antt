@@ -12,12 +12,13 @@ use lib.Dec.{eqb}
 use lib.ListN.{getD}
 use Rattle.words.specs.Answers.{Answer, refused, gives}
 use Rattle.text.specs.Numerals.{numeralOf}
+use Rattle.text.specs.Words.{lineFeed, atWord}
 
 -- ---- the words, in ASCII
 
 -- `: refused `
-abbrev pub refusedWord : List ℕ
-refusedWord = 58 ∷ 32 ∷ 114 ∷ 101 ∷ 102 ∷ 117 ∷ 115 ∷ 101 ∷ 100 ∷ 32 ∷ []
+abbrev pub colonRefused : List ℕ
+colonRefused = 58 ∷ 32 ∷ 114 ∷ 101 ∷ 102 ∷ 117 ∷ 115 ∷ 101 ∷ 100 ∷ 32 ∷ []
 
 -- `: taken` and a line feed
 abbrev pub takenText : List ℕ
@@ -35,10 +36,6 @@ hexWord = 58 ∷ 32 ∷ 48 ∷ 120 ∷ []
 abbrev pub barWord : List ℕ
 barWord = 58 ∷ 32 ∷ 66 ∷ 65 ∷ 82 ∷ 32 ∷ []
 
--- ` at `
-abbrev pub atWord : List ℕ
-atWord = 32 ∷ 97 ∷ 116 ∷ 32 ∷ []
-
 -- `, `
 abbrev pub commaWord : List ℕ
 commaWord = 44 ∷ 32 ∷ []
@@ -51,13 +48,10 @@ ofWord = 32 ∷ 111 ∷ 102 ∷ 32 ∷ []
 abbrev pub bytesText : List ℕ
 bytesText = 32 ∷ 98 ∷ 121 ∷ 116 ∷ 101 ∷ 115 ∷ 10 ∷ []
 
-abbrev pub lineFeed : List ℕ
-lineFeed = 10 ∷ []
-
 -- ---- the answers
 
 abbrev pub refusalRuns : ℕ → List (List ℕ)
-refusalRuns n = refusedWord ∷ numeralOf 10 n ∷ lineFeed ∷ []
+refusalRuns n = colonRefused ∷ numeralOf 10 n ∷ lineFeed ∷ []
 
 abbrev pub outcomeRuns : ℕ → List (List ℕ)
 outcomeRuns n = cond (eqb n 0) (takenText ∷ []) (refusalRuns n)

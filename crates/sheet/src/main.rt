@@ -1,5 +1,5 @@
-// Features, banks and register places of document 000's layout sheet. The cases are document 01's that are not in the table of the crate
-// stamp: each is asked of the code, and one line says what was asked and what came.
+// Features, banks and register places of document 000's layout sheet. Each question is asked of the code, and one line says what was asked and
+// what came.
 mod table;
 
 // The configuration space of the sheet, and two BAR captures with the same bytes, of which tBIR names the second.

@@ -1,5 +1,6 @@
 -- Uniqueness (document 01, "What the stamp certifies"): of every public call, any two results that its contract allows are equal. The
--- contracts themselves are named here (`Post` of each function), not copies of them. There is no exception.
+-- contracts themselves are named here (`Post` of each function), not copies of them. The one exception: of a part that is handed back its
+-- bytes are fixed, not the reference (docs/STAMP.md).
 --   Only P        the result is fixed: for all lifetimes κs and arguments a, and whatever the parameters are at exit
 --   Fixes out P   what `out` takes of the result and of the parameters at exit is fixed: the bytes of a part that is handed back, and what
 --                 was lent `&mut` as it is at exit (`s .0` is the first parameter at exit, `s .1 .0` the second, ..)

@@ -114,8 +114,8 @@ module _ (b n : ℕ) (base : 1 < b) (most : b ≤ 16) (word : n < 2 ^ 64) where
       by true e = leb-true (placesOf b n) k e
       by false e = absurd (omega (arith, too-few k h (leb-false (placesOf b n) k e)))
 
-pub numeral-fact : NumeralFacts
-numeral-fact b n base most word =
+pub numeral-facts : NumeralFacts
+numeral-facts b n base most word =
     let few : 1 ≤ placesOf b n = places-least b n base most word .starts in
     let long : length (numeralOf b n) ≡ placesOf b n = digits-length b (placesOf b n) n in
     record {

@@ -1,3 +1,4 @@
 pub mod Page
 pub mod Numerals
+pub mod Words
 pub mod Facts

@@ -2,6 +2,7 @@
 --   glyphOf d        the byte that stands for the digit d: 0 to 9, then a to f
 --   digitOf g        the digit that a byte stands for
 --   digits b k n     the k lowest digits of n in base b, the highest first
+--   holds b n k      k digits hold n
 --   placesOf b n     how many digits n takes: the first number k of 1 and more with n below b to the k
 --   numeralOf b n    n as text: that many digits, so with no zero in front
 --   readOn b a gs    the number a with the digits gs after it;   readAs b gs   the number that a text says

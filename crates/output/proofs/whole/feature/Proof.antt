@@ -2,8 +2,9 @@
 use Prim.Native.Nat.{ℕ}
 use mathlib.Core.List.{List, [], _∷_, _++_}
 use Rattle.text.specs.Numerals.{numeralOf}
+use Rattle.text.specs.Words.{lineFeed, atWord}
 use Rattle.text.proofs.PageLaws.{runs-on}
-use Rattle.output.specs.Output.{featureWord, instancesWord, validWord, sizeWord, atWord, lineFeed, lineRuns}
+use Rattle.output.specs.Output.{featureWord, instancesWord, validWord, sizeWord, lineRuns}
 use borrow.Author.Needs.{needs}
 use Rattle.output.proofs.whole.feature.Statement.{statement}
 use Rattle.output.proofs.whole.feature.Tie as tie

@@ -1,8 +1,9 @@
 -- `output::whole::refusal` meets its contract: the word, the number and a line feed, one after the other. Assumes nothing.
 use mathlib.Core.List.{[], _∷_}
 use Rattle.text.specs.Numerals.{numeralOf}
+use Rattle.text.specs.Words.{lineFeed}
 use Rattle.text.proofs.PageLaws.{runs-on}
-use Rattle.output.specs.Output.{refusedWord, lineFeed}
+use Rattle.output.specs.Output.{refusedWord}
 use borrow.Author.Needs.{needs}
 use Rattle.output.proofs.whole.refusal.Statement.{statement}
 use Rattle.output.proofs.whole.refusal.Tie as tie

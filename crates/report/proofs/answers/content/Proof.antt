@@ -5,7 +5,8 @@ use Rattle.places.specs.Told.{valued}
 use Rattle.places.specs.declared.found.Value.{Value}
 use Rattle.text.specs.Numerals.{numeralOf}
 use Rattle.text.proofs.PageLaws.{PutAll, runs-on}
-use Rattle.report.specs.Answers.{hexWord, lineFeed, contentRuns}
+use Rattle.text.specs.Words.{lineFeed}
+use Rattle.report.specs.Answers.{hexWord, contentRuns}
 use borrow.Author.Needs.{needs}
 use Rattle.report.proofs.answers.content.Statement.{statement}
 use Rattle.report.proofs.answers.content.Tie as tie

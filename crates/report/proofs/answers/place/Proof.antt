@@ -6,7 +6,8 @@ use Rattle.places.specs.Told.{told}
 use Rattle.places.specs.declared.found.Found.{Found}
 use Rattle.text.specs.Numerals.{numeralOf}
 use Rattle.text.proofs.PageLaws.{PutAll, runs-on}
-use Rattle.report.specs.Answers.{barWord, atWord, commaWord, ofWord, bytesText, placeRuns}
+use Rattle.text.specs.Words.{atWord}
+use Rattle.report.specs.Answers.{barWord, commaWord, ofWord, bytesText, placeRuns}
 use borrow.Author.Needs.{needs}
 use Rattle.report.proofs.answers.place.Statement.{statement}
 use Rattle.report.proofs.answers.place.Tie as tie

@@ -2,7 +2,8 @@
 use mathlib.Core.List.{[], _∷_}
 use Rattle.text.specs.Numerals.{numeralOf}
 use Rattle.text.proofs.PageLaws.{runs-on}
-use Rattle.report.specs.Answers.{refusedWord, lineFeed}
+use Rattle.text.specs.Words.{lineFeed}
+use Rattle.report.specs.Answers.{colonRefused}
 use borrow.Author.Needs.{needs}
 use Rattle.report.proofs.answers.refusal.Statement.{statement}
 use Rattle.report.proofs.answers.refusal.Tie as tie
@@ -26,7 +27,7 @@ returns : tie.Need-returns
 returns c =
     let d = c .before .before .before .before .before .before .before in
     let a = d .before .before .before .before .args in
-    runs-on (a .page .now) (a .at) (refusedWord ∷ numeralOf 10 (a .n) ∷ []) (lineFeed ∷ []) (d .labelled .ensures) (c .before .before .put .ensures)
+    runs-on (a .page .now) (a .at) (colonRefused ∷ numeralOf 10 (a .n) ∷ []) (lineFeed ∷ []) (d .labelled .ensures) (c .before .before .put .ensures)
 
 pub refusal-spec : {M : Type 1} → statement M
 refusal-spec =
