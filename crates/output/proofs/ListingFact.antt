@@ -5,24 +5,22 @@ use mathlib.Core.Bool.{Bool, true, false, cond, not}
 use mathlib.Core.Logic.{_≢_}
 use mathlib.Core.List.{List, [], _∷_, _++_, append-nil}
 use native.Mathlib.Nat.{zero-add, add-assoc}
-use native.Mathlib.Numerals.{add-one}
 use native.Mathlib.Omega.{arith}
-use borrow.Author.Tests.{ne-eqb, not-true, not-false, ltb-false}
+use borrow.Author.Tests.{ne-eqb, not-false, ltb-false}
 use lib.Dec.{eqb, ltb}
 use lib.ListN.{length, take, drop, length-append}
 use lib.Seq.{take-append-seam, drop-append-seam}
-use Rattle.words.specs.Answers.{Answer, refused, gives, unless}
 use Rattle.words.proofs.AnswerLaws.{unless-number, unless-passes, first-zero}
 use Rattle.fields.specs.Masks.{one, howMany}
 use Rattle.captures.specs.Layout.{readable}
 use Rattle.text.specs.Page.{over}
 use Rattle.text.proofs.PageLaws.{over-fits}
-use Rattle.text.specs.Numerals.{glyphOf, digits, numeralOf}
+use Rattle.text.specs.Numerals.{glyphOf, digits}
 use Rattle.banks.specs.Faults.{bankIn, emptyBank}
-use Rattle.discovery.specs.Discovery.{Capture, birOf, barOf, tableOf, entriesOf, numberOf, discoveryOf}
+use Rattle.discovery.specs.Discovery.{birOf, barOf, tableOf, entriesOf, numberOf, discoveryOf}
 use Rattle.discovery.proofs.DiscoveryLaws.{structure-narrow, table-bound, bar-named}
 use Rattle.discovery.proofs.DiscoveryFact.{discovery-small}
-use Rattle.listing.specs.Lines.{Said, unreadable, answers, captureIn, listingOf, barIn, lineOf}
+use Rattle.listing.specs.Lines.{unreadable, answers, captureIn, lineOf}
 use Rattle.output.specs.Output.{lineRuns, lineText, linesBelow, refusedText, unreadableText, saidText, textOf, longest, listNumber, pageLeft}
 use Rattle.output.specs.Facts.{feeds, aFeature, LinesFact, ListingFact}
 use Rattle.listing.proofs.LineLaws.{says-unreadable, says-answer, bar-there, line-none, line-there}

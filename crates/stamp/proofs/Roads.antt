@@ -1,11 +1,11 @@
 -- The place formula, and the roads to one register. Assumes nothing.
 use Prim.Native.Nat.{ℕ, _+_, _*_, _≤_}
-use mathlib.Core.Path.{_≡_, refl, sym, ap, _∙_}
+use mathlib.Core.Path.{_≡_, sym, ap, _∙_}
 use mathlib.Core.List.{List, [], _∷_}
 use native.Mathlib.Nat.{mul-assoc}
 use native.Mathlib.Omega.{arith}
 use lib.ListN.{length, drop, length-take}
-use Rattle.words.specs.Answers.{gives, unless}
+use Rattle.words.specs.Answers.{gives}
 use Rattle.words.specs.Bytes.{numberAt}
 use Rattle.words.proofs.AnswerLaws.{unless-both, unless-passes}
 use Rattle.words.proofs.NumberLaws.{number-part}

@@ -1,7 +1,7 @@
 -- Worked cases: 0, a number of three digits, the longest of 64 bits, and 001's default units in hexadecimal; words that fit a page and words
 -- that do not. Assumes nothing.
 use mathlib.Core.Path.{_≡_, refl}
-use mathlib.Core.List.{List, [], _∷_}
+use mathlib.Core.List.{[], _∷_}
 use Prim.Native.Nat.{_-_, _^_}
 use lib.ListN.{length, replicate}
 use Rattle.words.specs.Below.{least}

@@ -3,19 +3,17 @@
 use Prim.Native.Nat.{ℕ, zero, suc, _+_, _-_, _*_, _/_, _%_, _^_, _≤_, _<_}
 use mathlib.Core.Path.{_≡_, refl, sym, ap, ap₂, subst, _∙_}
 use mathlib.Core.Bool.{Bool, true, false, cond}
-use mathlib.Core.Logic.{_≢_}
-use mathlib.Core.List.{List, [], _∷_}
+use mathlib.Core.List.{[], _∷_}
 use borrow.Author.Tests.{lt-ltb, le-ltb, ltb-true, ltb-false, leb-true, leb-false}
 use lib.Arith.{mod-mul}
 use lib.Dec.{ltb, leb}
 use lib.ListN.{length, getD}
-use native.Mathlib.Nat.{pow-succ', pow-le-pow-left, div-lt-iff-lt-mul, zero-div, zero-mod, pow-suc, mod-lt, mod-one, mod-eq-of-lt, not-suc-le-zero, add-assoc, mul-assoc, add-mul, zero-mul, zero-add, add-zero, pow-zero, mul-one}
+use native.Mathlib.Nat.{pow-succ', pow-le-pow-left, div-lt-iff-lt-mul, zero-div, zero-mod, mod-lt, mod-one, mod-eq-of-lt, not-suc-le-zero, add-assoc, mul-assoc, add-mul, zero-mul, zero-add, add-zero, pow-zero, mul-one}
 use native.Mathlib.Omega.{arith}
-use Rattle.words.specs.Below.{least}
 use Rattle.words.specs.Facts.{IsLeast}
 use Rattle.words.proofs.BelowLaws.{least-here, is-least}
 use Rattle.text.specs.Numerals.{glyphOf, digitOf, digits, holds, placesOf, numeralOf, readOn, readAs}
-use Rattle.text.specs.Facts.{NumeralFact, NumeralFacts}
+use Rattle.text.specs.Facts.{NumeralFacts}
 use Rattle.text.proofs.NumeralLaws.{power-some, enough, digits-length}
 
 -- ---- a digit

@@ -2,9 +2,9 @@
 use Prim.Native.Nat.{ℕ, zero, suc, _+_, _-_, _*_, _/_, _%_, _^_, _≤_, _<_}
 use mathlib.Core.Path.{_≡_, refl, sym, ap, ap₂, subst, _∙_}
 use mathlib.Core.Bool.{Bool, true, false}
-use mathlib.Core.List.{List, [], _∷_, _++_, append-assoc}
+use mathlib.Core.List.{List, _++_, append-assoc}
 use borrow.Author.Tests.{lt-ltb, le-ltb, leb-true, leb-false}
-use lib.Dec.{ltb, leb}
+use lib.Dec.{leb}
 use lib.ListN.{length, getD, set, take, drop, take-append-drop}
 use lib.Seq.{length-take-le, set-at, take-suc, append-snoc}
 use native.Mathlib.Nat.{add-zero, sub-zero, sub-self, pow-zero, pow-suc, pow-le-pow-left, pow-le-pow-right, one-le-pow, le-div-iff-mul-le, div-lt-iff-lt-mul, div-div-eq-div-mul, div-one, one-mul}
@@ -13,7 +13,7 @@ use native.Mathlib.Omega.{arith}
 use Rattle.words.specs.Below.{least}
 use Rattle.words.proofs.BelowLaws.{least-here, least-turn}
 use Rattle.text.specs.Page.{over}
-use Rattle.text.specs.Numerals.{glyphOf, digits, holds, placesOf, numeralOf}
+use Rattle.text.specs.Numerals.{glyphOf, digits, holds, placesOf}
 use Rattle.text.proofs.PageLaws.{over-fits}
 
 -- ---- how many digits

@@ -1,12 +1,12 @@
 -- `text::page::put` meets its contract. The invariant: the page is the first one with the first i words pasted in. The measure is many - i.
 -- Assumes nothing.
-use mathlib.Core.Path.{_≡_, refl, sym, ap, _∙_}
-use Prim.Native.Nat.{_+_, _-_, _≤_}
+use mathlib.Core.Path.{_≡_, refl, sym, _∙_}
+use Prim.Native.Nat.{_-_, _≤_}
 use native.Mathlib.Numerals.{add-one}
 use native.Mathlib.Omega.{arith}
-use lib.ListN.{length, take, drop, length-set}
-use lib.Seq.{paste, paste-zero, paste-suc, length-paste, take-length}
-use Rattle.text.proofs.PageLaws.{over-fits, after-fits, over-short, after-short, pasted}
+use lib.ListN.{length, length-set}
+use lib.Seq.{paste, paste-zero, paste-suc}
+use Rattle.text.proofs.PageLaws.{after-fits, over-short, after-short, pasted}
 use Rattle.text.proofs.page.put.Statement.{statement}
 use Rattle.text.proofs.page.put.Tie as tie
 
