@@ -1,8 +1,12 @@
 // Writes of a limit's fields, in a capture with one feature and two domains, a package and a memory.
 use libc::STDOUT_FILENO;
-use report::answers::outcome;
-use stores::bytes::store_u16;
-use stores::bytes::store_u64;
+use rapl_permits::permits::LOCK;
+use rapl_permits::permits::PWR_LIM;
+use rapl_permits::permits::PWR_LIM_EN;
+use rapl_permits::permits::TIME_WINDOW;
+use report::endings::outcome;
+use stores::numbers::store_u16;
+use stores::numbers::store_u64;
 use text::numerals::labelled;
 use text::numerals::labelled_hex;
 use text::page::put;
@@ -24,11 +28,11 @@ pub(crate) fn set_domains(bar: &mut [u8]) {
 }
 
 // A field by its number, with the number to be written.
-fn field(page: &mut [u8], at: usize, which: u32, value: u64) -> usize {
+fn field(page: &mut [u8], at: usize, which: u64, value: u64) -> usize {
     match which {
-        0 => labelled(page, at, b", PWR_LIM ", value),
-        1 => labelled(page, at, b", TIME_WINDOW ", value),
-        2 => labelled(page, at, b", PWR_LIM_EN ", value),
+        PWR_LIM => labelled(page, at, b", PWR_LIM ", value),
+        TIME_WINDOW => labelled(page, at, b", TIME_WINDOW ", value),
+        PWR_LIM_EN => labelled(page, at, b", PWR_LIM_EN ", value),
         _ => labelled(page, at, b", LOCK ", value),
     }
 }
@@ -38,15 +42,15 @@ fn write(
     low: &mut [u8],
     high: &mut [u8],
     n: u64,
-    limit: u32,
-    which: u32,
+    limit: u64,
+    which: u64,
     value: u64,
 ) {
     let mut page = [0u8; 128];
     let mut at = labelled(&mut page, 0, b"domain ", n);
-    at = labelled(&mut page, at, b", limit ", limit as u64);
+    at = labelled(&mut page, at, b", limit ", limit);
     at = field(&mut page, at, which, value);
-    let came = writes::write::write(config, 0, low, 1, high, 0, n, limit, which, value);
+    let came = rapl_writes::write::write(config, 0, low, 1, high, 0, n, limit, which, value);
     at = outcome(&mut page, at, came);
     io::write_all(STDOUT_FILENO, shown(&page, at));
 }
@@ -62,25 +66,25 @@ fn held(low: &[u8], high: &[u8]) {
 
 // Document 01's three writes: PWR_LIM, TIME_WINDOW and PWR_LIM_EN of the socket's first limit.
 pub(crate) fn limits(config: &[u8], low: &mut [u8], high: &mut [u8]) {
-    write(config, low, high, 0, 1, 0, 1000);
-    write(config, low, high, 0, 1, 1, 0x6E);
-    write(config, low, high, 0, 1, 2, 1);
+    write(config, low, high, 0, 1, PWR_LIM, 1000);
+    write(config, low, high, 0, 1, TIME_WINDOW, 0x6E);
+    write(config, low, high, 0, 1, PWR_LIM_EN, 1);
     held(low, high);
 }
 
 // A number too wide, the window of a package's second limit, a second limit of the memory, a limit 3.
 pub(crate) fn refusals(config: &[u8], low: &mut [u8], high: &mut [u8]) {
-    write(config, low, high, 0, 1, 0, 262144);
-    write(config, low, high, 0, 2, 1, 0x6E);
-    write(config, low, high, 1, 2, 0, 1000);
-    write(config, low, high, 0, 3, 0, 1000);
+    write(config, low, high, 0, 1, PWR_LIM, 262144);
+    write(config, low, high, 0, 2, TIME_WINDOW, 0x6E);
+    write(config, low, high, 1, 2, PWR_LIM, 1000);
+    write(config, low, high, 0, 3, PWR_LIM, 1000);
     held(low, high);
 }
 
 // Once LOCK is 1 no field can be written, LOCK neither.
 pub(crate) fn locked(config: &[u8], low: &mut [u8], high: &mut [u8]) {
-    write(config, low, high, 0, 1, 3, 1);
-    write(config, low, high, 0, 1, 0, 2000);
-    write(config, low, high, 0, 1, 3, 0);
+    write(config, low, high, 0, 1, LOCK, 1);
+    write(config, low, high, 0, 1, PWR_LIM, 2000);
+    write(config, low, high, 0, 1, LOCK, 0);
     held(low, high);
 }

@@ -1,7 +1,7 @@
 // A caller's example, as README shows it: a capture in, the first power limit of a domain out, in the domain's power units, or the refusal.
-use limits::limit;
-use places::found::Value;
-use rapl::lookups;
+use rapl_limits::limit;
+use rapl_lookups::lookups;
+use words::answers::Value;
 
 pub(crate) fn limit_1<'a>(
     config: &[u8],

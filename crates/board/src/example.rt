@@ -1,13 +1,13 @@
 // The RAPL domains of document 001's register layout example, socket, memory and platform, in a capture with one feature.
 use crate::caller::limit_1;
-use domains::headers::Known;
 use libc::STDOUT_FILENO;
-use rapl::lookups;
-use report::answers::content;
-use report::answers::refusal;
-use report::answers::value;
-use stores::bytes::store_u16;
-use stores::bytes::store_u64;
+use rapl_domains::domains::Known;
+use rapl_lookups::lookups;
+use report::endings::content;
+use report::endings::refusal;
+use report::endings::value;
+use stores::numbers::store_u16;
+use stores::numbers::store_u64;
 use text::numerals::labelled;
 use text::numerals::labelled_hex;
 use text::page::put;
@@ -66,9 +66,9 @@ pub(crate) fn domains<'a>(config: &[u8], low: &'a [u8], high: &'a [u8]) {
     domain(config, low, high, 3);
 }
 
-fn register<'a>(config: &[u8], low: &'a [u8], high: &'a [u8], n: u64, r: u32) {
+fn register<'a>(config: &[u8], low: &'a [u8], high: &'a [u8], n: u64, r: u64) {
     let mut page = [0u8; 128];
-    let mut at = labelled(&mut page, 0, b"register ", r as u64);
+    let mut at = labelled(&mut page, 0, b"register ", r);
     at = labelled(&mut page, at, b" of domain ", n);
     at = content(
         &mut page,

@@ -1,10 +1,10 @@
 // Units, window codes, domain headers and a limit, each as a register by itself. The values are document 001's defaults and cases beside
 // document 01's: each is asked of the code, and one line says what was asked and what came.
-mod registers;
+mod worked;
 
 fn main() {
-    registers::units();
-    registers::windows();
-    registers::headers();
-    registers::limit();
+    worked::units();
+    worked::windows();
+    worked::headers();
+    worked::limit();
 }

@@ -3,7 +3,7 @@ use Prim.Native.Nat.{ℕ, _-_, _*_, _^_}
 use mathlib.Core.Path.{_≡_, refl}
 use mathlib.Core.List.{List, [], _∷_}
 use Rattle.words.specs.Bytes.{numberAt}
-use Rattle.fields.specs.Fields.{field, withField, fieldStored}
+use Rattle.fields.specs.Bits.{field, withField, fieldStored}
 use Rattle.fields.specs.Tables.{fields, withFields}
 use Rattle.fields.specs.Masks.{howMany, maskOf, onwards}
 use Rattle.words.proofs.Cases.{sample, fives}

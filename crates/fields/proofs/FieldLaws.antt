@@ -6,7 +6,7 @@ use lib.Pow.{pow-pos, pow-add, shr-shr, shr-lt, split, high, low, mod-pow-add, s
 use lib.Pow as pow
 use native.Mathlib.Omega.{arith}
 use lib.Arith.{digits-lt}
-use Rattle.fields.specs.Fields.{field, withField, bit}
+use Rattle.fields.specs.Bits.{field, withField, bit}
 
 below : (x k : ℕ) → x % 2 ^ k < 2 ^ k
 below x k = mod-lt x (pow-pos k)

@@ -10,7 +10,7 @@ use lib.Dec.{lit<}
 use lib.Pow.{shl-exact, high, low}
 use lib.Bits.{bitOr, or-shifted-r}
 use lib.Count.{ones, ones-cat}
-use Rattle.fields.specs.Fields.{field, bit}
+use Rattle.fields.specs.Bits.{field, bit}
 use Rattle.fields.specs.Masks.{one, howMany, maskOf, onwards}
 use Rattle.fields.proofs.FieldLaws.{field-mod}
 

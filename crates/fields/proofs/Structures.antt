@@ -12,14 +12,14 @@ use lib.Pow.{pow-pos}
 use lib.ListN.{length, getD}
 use Rattle.words.specs.Answers.{refused, gives, first, unless}
 use Rattle.words.specs.Bytes.{AllBytes, numberAt, stored}
-use Rattle.fields.specs.Tables.{fields, withFields, total, Fit, wider, writtenUnless, writtenWord}
+use Rattle.fields.specs.Tables.{fields, withFields, total, Fit, wider, misfit, writtenUnless, writtenWord}
 use Rattle.fields.specs.Facts.{ValueTrips, WordTrips}
 use Rattle.words.proofs.TestLaws.{fails-exactly}
-use Rattle.words.proofs.AnswerLaws.{first-skip, first-take, first-end, first-zero}
+use Rattle.words.proofs.AnswerLaws.{first-skip, first-take, first-end}
 use Rattle.words.proofs.StoreLaws.{stored-other}
 use Rattle.fields.proofs.TableLaws.{fields-with, fields-fit, fields-whole, fields-lt, fit-narrow, narrow-fit, structure-back, structure-kept, structure-carried}
+use Rattle.fields.proofs.WordLaws.{misfit-table}
 use Rattle.fields.proofs.Theorems.{wider-fact}
-use Rattle.words.proofs.Theorems.{exact-fact, unless-fact}
 
 -- ---- a structure, in a part of n bytes or more
 
@@ -76,9 +76,17 @@ module _ {S : Type 0} (ws : List ℕ) (n : ℕ) (size : total ws ≡ 8 * n) (val
 -- ---- a register: the answer to a write, by the test of widths
 
 module _ (ws vs : List ℕ) where
-  by-number : (n : ℕ) → first ((wider ws vs, 17) ∷ []) ≡ n → writtenWord ws vs ≡ unless n (gives (withFields 0 ws 0 vs ∷ []))
+  pub word-misfit : misfit ws vs ≡ true → writtenWord ws vs ≡ refused 17
+  unfolding writtenWord first
+  word-misfit h = rw h
+
+module _ (ws vs : List ℕ) (long : length ws ≡ length vs) (small : total ws ≤ 64) where
+  by-widths : writtenWord ws vs ≡ unless (first ((wider ws vs, 17) ∷ [])) (gives (withFields 0 ws 0 vs ∷ []))
   unfolding writtenWord
-  by-number n e = ap (λ (m : ℕ). unless m (gives (withFields 0 ws 0 vs ∷ []))) e
+  by-widths = rw (misfit-table ws vs long small)
+
+  by-number : (n : ℕ) → first ((wider ws vs, 17) ∷ []) ≡ n → writtenWord ws vs ≡ unless n (gives (withFields 0 ws 0 vs ∷ []))
+  by-number n e = by-widths ∙ ap (λ (m : ℕ). unless m (gives (withFields 0 ws 0 vs ∷ []))) e
 
   pub word-wide : wider ws vs ≡ true → writtenWord ws vs ≡ refused 17
   word-wide h = by-number 17 (first-take _ _ h)
@@ -87,23 +95,26 @@ module _ (ws vs : List ℕ) where
   word-right h = by-number 0 (first-skip _ _ h ∙ first-end)
 
   -- and back again: what the answer tells of the test
-  refused-wide : writtenWord ws vs ≡ refused 17 → wider ws vs ≡ true
-  unfolding writtenWord
-  refused-wide e =
-      exact-fact [] (wider ws vs) 17 [] (λ z. omega arith) tt .0 (unless-fact (first ((wider ws vs, 17) ∷ [])) _ .refuses 17 .0 e .0) .1
+  pub word-refused : (n : ℕ) → writtenWord ws vs ≡ refused n → wider ws vs ≡ true
+  word-refused n e = by (wider ws vs) refl
+    where
+      by : (t : Bool) → wider ws vs ≡ t → wider ws vs ≡ true
+      by true h = h
+      by false h = let z = word-right h in cc
 
-  given-right : (x : ℕ) → writtenWord ws vs ≡ gives (x ∷ []) → (wider ws vs ≡ false) × (withFields 0 ws 0 vs ≡ x)
-  unfolding writtenWord
-  given-right x e =
-      let n = unless-fact (first ((wider ws vs, 17) ∷ [])) (withFields 0 ws 0 vs ∷ []) .accepts (x ∷ []) .0 e in
-      let q : withFields 0 ws 0 vs ≡ x = cc in
-      (first-zero _ tt (n .0) .0, q)
+  pub word-given : (x : ℕ) → writtenWord ws vs ≡ gives (x ∷ []) → (wider ws vs ≡ false) × (withFields 0 ws 0 vs ≡ x)
+  word-given x e = by (wider ws vs) refl
+    where
+      by : (t : Bool) → wider ws vs ≡ t → (wider ws vs ≡ false) × (withFields 0 ws 0 vs ≡ x)
+      by true h = let z = word-wide h in (cc, cc)
+      by false h = let z = word-right h in (h, cc)
 
 -- S's values as they stand in the fields, and the value that a content holds
 module _ {S : Type 0} (ws : List ℕ) (values : S → List ℕ) (read : ℕ → S)
     (values-of : (x : ℕ) → values (read x) ≡ fields 0 ws x)
     (values-once : (u v : S) → values u ≡ values v → u ≡ v)
-    (long : (v : S) → length ws ≡ length (values v)) where
+    (long : (v : S) → length ws ≡ length (values v))
+    (small : total ws ≤ 64) where
   -- the content that is given has the table's bits and reads as the value
   reads : (v : S) → Fit ws (values v) → (withFields 0 ws 0 (values v) < 2 ^ total ws) × (read (withFields 0 ws 0 (values v)) ≡ v)
   reads v f =
@@ -111,25 +122,25 @@ module _ {S : Type 0} (ws : List ℕ) (values : S → List ℕ) (read : ℕ → 
 
   given : (v : S) (x : ℕ) → writtenWord ws (values v) ≡ gives (x ∷ []) → (x < 2 ^ total ws) × (read x ≡ v)
   given v x e =
-      let g = given-right ws (values v) x e in
+      let g = word-given ws (values v) (long v) small x e in
       subst (λ (y : ℕ). (y < 2 ^ total ws) × (read y ≡ v)) (g .1) (reads v (narrow-fit ws (values v) (long v) (g .0)))
 
   -- a content is given back
   given-back : (x : ℕ) → x < 2 ^ total ws → writtenWord ws (values (read x)) ≡ gives (x ∷ [])
   given-back x h =
       let fit : Fit ws (values (read x)) = subst (Fit ws) (sym (values-of x)) (fields-fit 0 ws x) in
-      word-right ws (values (read x)) (fit-narrow ws _ fit)
+      word-right ws (values (read x)) (long (read x)) small (fit-narrow ws _ fit)
       ∙ ap (λ (y : ℕ). gives (y ∷ [])) (ap (withFields 0 ws 0) (values-of x) ∙ fields-whole ws x 0 h (pow-pos (total ws)))
 
   pub word-trips : (v : S) → WordTrips ws values read v
   word-trips v =
       let exactly = fails-exactly (wider ws (values v)) (wider-fact ws (values v) (long v)) in
       record {
-        seventeen = (λ e. exactly .0 (refused-wide ws (values v) e), λ n. word-wide ws (values v) (exactly .1 n));
+        seventeen = (λ e. exactly .0 (word-refused ws (values v) (long v) small 17 e), λ n. word-wide ws (values v) (long v) small (exactly .1 n));
         content = λ x. (given v x, λ h. subst (λ (u : S). writtenWord ws (values u) ≡ gives (x ∷ [])) (h .1) (given-back x (h .0)));
         complete = by (wider ws (values v)) refl;
       }
     where
       by : (t : Bool) → wider ws (values v) ≡ t → (writtenWord ws (values v) ≡ refused 17) ⊎ ((x : ℕ) × (writtenWord ws (values v) ≡ gives (x ∷ [])))
-      by true e = inl (word-wide ws (values v) e)
-      by false e = inr (withFields 0 ws 0 (values v), word-right ws (values v) e)
+      by true e = inl (word-wide ws (values v) (long v) small e)
+      by false e = inr (withFields 0 ws 0 (values v), word-right ws (values v) (long v) small e)

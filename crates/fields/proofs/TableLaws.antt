@@ -1,7 +1,7 @@
 -- The field fact, for a table of fields: a structure's round trips, for any list of widths, and two words side by side. Assumes nothing.
 use Prim.Native.Nat.{ℕ, zero, suc, _+_, _*_, _/_, _%_, _^_, _≤_, _<_}
 use mathlib.Core.Path.{_≡_, refl, sym, ap, ap₂, _∙_}
-use mathlib.Core.Bool.{true, false, or-false}
+use mathlib.Core.Bool.{true, false}
 use mathlib.Core.List.{List, [], _∷_, _++_}
 use native.Mathlib.Nat.{not-suc-le-zero, le-of-suc-le-suc, add-zero, zero-add, add-assoc, add-comm, add-mul, mul-assoc, mul-suc, pow-suc, mod-eq-of-lt, mod-one, le-dest, mul-add-div-right, mul-add-mod-self-right}
 use native.Mathlib.Omega.{arith}
@@ -10,7 +10,7 @@ use lib.Dec.{leb}
 use lib.Pow.{pow-pos, pow-add, shr-shr, high, low, mod-pow-add}
 use lib.ListN.{length, getD}
 use Rattle.words.specs.Bytes.{AllBytes, numberAt, stored}
-use Rattle.fields.specs.Fields.{field, withField}
+use Rattle.fields.specs.Bits.{field, withField}
 use Rattle.fields.specs.Tables.{fields, withFields, total, Fit, wider}
 use Rattle.words.proofs.TestLaws.{or-skip, or-take, or-second, or-neither}
 use Rattle.words.proofs.NumberLaws.{number-lt, number-byte}
@@ -77,10 +77,6 @@ pub wider-skip : (w v : ℕ) (ws vs : List ℕ) → v < 2 ^ w → wider (w ∷ w
 unfolding wider
 wider-skip w v ws vs h = or-skip _ (lt-leb _ _ h)
 
-pub wider-last : (w v : ℕ) → wider (w ∷ []) (v ∷ []) ≡ leb (2 ^ w) v
-unfolding wider
-wider-last w v = or-false _
-
 -- one number that does not fit is enough
 pub wider-at : (ws vs : List ℕ) (k : ℕ) → k < length ws → 2 ^ getD ws k 0 ≤ getD vs k 0 → wider ws vs ≡ true
 unfolding wider
@@ -93,6 +89,10 @@ pub fit-narrow : (ws vs : List ℕ) → Fit ws vs → wider ws vs ≡ false
 unfolding wider
 fit-narrow [] [] f = refl
 fit-narrow (w ∷ ws) (v ∷ vs) f = or-skip _ (lt-leb _ _ (f .0)) ∙ fit-narrow ws vs (f .1)
+
+pub fit-length : (ws vs : List ℕ) → Fit ws vs → length ws ≡ length vs
+fit-length [] [] f = refl
+fit-length (w ∷ ws) (v ∷ vs) f = ap suc (fit-length ws vs (f .1))
 
 pub narrow-fit : (ws vs : List ℕ) → length ws ≡ length vs → wider ws vs ≡ false → Fit ws vs
 unfolding wider

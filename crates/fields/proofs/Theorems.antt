@@ -1,16 +1,17 @@
 -- Each theorem of Facts.antt, under its name. Assumes nothing.
 use Prim.Native.Nat.{ℕ, _+_, _*_, _^_, _≤_, _<_}
-use mathlib.Core.Path.{_≡_}
+use mathlib.Core.Path.{_≡_, _∙_}
 use mathlib.Core.Logic.{_⊎_, inl, inr}
 use mathlib.Core.Bool.{Bool}
 use mathlib.Core.List.{List}
 use native.Mathlib.Omega.{arith}
-use Rattle.fields.specs.Fields.{withField, bit}
+use Rattle.fields.specs.Bits.{withField, bit}
 use Rattle.fields.specs.Tables.{withFields, total}
-use Rattle.fields.specs.Facts.{FieldFact, BesideFact, SameBitsFact, RoundTrips, WiderFact, SideBySide, MaskFact}
+use Rattle.fields.specs.Facts.{FieldFact, BesideFact, SameBitsFact, RoundTrips, WiderFact, MisfitFact, SideBySide, MaskFact}
 use Rattle.words.proofs.StoreLaws.{stored-other}
 use Rattle.fields.proofs.FieldLaws.{field-with, field-with-inside, field-with-below, field-with-above, field-lt, with-field, with-with, with-lt, same-bits}
-use Rattle.fields.proofs.TableLaws.{fit-narrow, narrow-fit, structure-back, structure-kept, structure-carried, side-read, side-written}
+use Rattle.fields.proofs.TableLaws.{fit-length, fit-narrow, narrow-fit, structure-back, structure-kept, structure-carried, side-read, side-written}
+use Rattle.fields.proofs.WordLaws.{misfit-fits, misfit-table}
 use Rattle.fields.proofs.MaskLaws.{mask-bit, mask-lt, ones-mask}
 
 other-bits : (p w x v k : ℕ) → (k < p) ⊎ (p + w ≤ k) → bit k (withField p w x v) ≡ bit k x
@@ -51,6 +52,9 @@ round-trips ws n size xs at y fits =
 
 pub wider-fact : (ws vs : List ℕ) → WiderFact ws vs
 wider-fact ws vs e = (narrow-fit ws vs e, fit-narrow ws vs)
+
+pub misfit-fact : (ws vs : List ℕ) → MisfitFact ws vs
+misfit-fact ws vs = (misfit-fits ws vs, λ p. misfit-table ws vs (fit-length ws vs (p .0)) (p .1) ∙ fit-narrow ws vs (p .0))
 
 pub side-by-side : (ws us : List ℕ) (x y : ℕ) → x < 2 ^ total ws → SideBySide ws us x y
 side-by-side ws us x y h = record { read = side-read ws us x y h; written = side-written ws us x y h }

@@ -9,8 +9,8 @@ use mathlib.Core.List.{List, [], _∷_, _++_}
 use lib.ListN.{length, getD}
 use lib.Count.{ones}
 use Rattle.words.specs.Bytes.{AllBytes, numberAt, stored}
-use Rattle.fields.specs.Fields.{field, withField, bit}
-use Rattle.fields.specs.Tables.{fields, withFields, total, Fit, wider, writtenWord}
+use Rattle.fields.specs.Bits.{field, withField, bit}
+use Rattle.fields.specs.Tables.{fields, withFields, total, Fit, wider, misfit, writtenWord}
 use Rattle.words.specs.Answers.{refused, gives}
 use Rattle.fields.specs.Masks.{one, howMany, maskOf}
 
@@ -53,6 +53,10 @@ pub record RoundTrips (ws : List ℕ) (n : ℕ) (xs : List ℕ) (at y : ℕ) : T
 abbrev pub WiderFact : List ℕ → List ℕ → Type 0
 WiderFact ws vs = length ws ≡ length vs → (wider ws vs ≡ false) ↔ Fit ws vs
 
+-- Values make a word exactly where there is one for each field, each fits, and the table takes no more than 64 bits.
+abbrev pub MisfitFact : List ℕ → List ℕ → Type 0
+MisfitFact ws vs = (misfit ws vs ≡ false) ↔ (Fit ws vs × (total ws ≤ 64))
+
 -- The same of a structure as a value of the code: `read` makes the value of a part's first n bytes, `number` says what writing a value
 -- answers, and `written` what the part then holds. What is read and written back, here or to another part, is the same bits; what is
 -- written and read back is the same value; bytes past the structure stay, and a refused write changes nothing.
@@ -63,10 +67,10 @@ pub record ValueTrips {S : Type 0} (n : ℕ) (read : List ℕ → S) (number : L
   pub past : (v : S) (k : ℕ) → n ≤ k → getD (written s v) k 0 ≡ getD s k 0
   pub refused-kept : (v : S) → number s v ≢ 0 → written s v ≡ s
 
--- A register as a value of the code, its table ws: `values` are a value's numbers in the order of the table, `read` makes the value that a
--- content holds. Writing: 17 exactly if a number does not fit its field; a content is given exactly if it has no more bits than the table
--- and reads as this value; one of the two always comes. So a register read and written back is the same bits, reserved ones too, and a
--- value written and read back is the same.
+-- A register as a value of the code, its table ws, of at most 64 bits: `values` are a value's numbers in the order of the table, `read`
+-- makes the value that a content holds. Writing: 17 exactly if a number does not fit its field; a content is given exactly if it has no
+-- more bits than the table and reads as this value; one of the two always comes. So a register read and written back is the same bits,
+-- reserved ones too, and a value written and read back is the same.
 pub record WordTrips {S : Type 0} (ws : List ℕ) (values : S → List ℕ) (read : ℕ → S) (v : S) : Type 0 where
   pub seventeen : (writtenWord ws (values v) ≡ refused 17) ↔ (Fit ws (values v) → ⊥)
   pub content : (x : ℕ) → (writtenWord ws (values v) ≡ gives (x ∷ [])) ↔ ((x < 2 ^ total ws) × (read x ≡ v))

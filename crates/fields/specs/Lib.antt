@@ -1,4 +1,4 @@
-pub mod Fields
+pub mod Bits
 pub mod Tables
 pub mod Masks
 pub mod Facts

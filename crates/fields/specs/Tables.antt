@@ -5,16 +5,18 @@
 --   total ws               the bits that the table takes
 --   Fit ws vs              a value for each field, each below 2 to its width
 --   wider ws vs            some value does not fit its field
+--   misfit ws vs           they make no word: not a value for each field, one that does not fit its field, or more than 64 bits
 --   writtenUnless          what a part holds once a structure of n bytes was written to it: as it was where the number is not 0
---   writtenWord ws vs      what writing the values to a register answers: 17 where one does not fit its field, else the content
+--   writtenWord ws vs      what writing the values to a register of 64 bits answers: 17 where they do not fit it, else the content
 -- Assumes nothing.
 use Prim.Native.Nat.{ℕ, _+_, _^_, _<_}
-use mathlib.Core.Bool.{Bool, false, cond, _||_}
+use mathlib.Core.Bool.{Bool, false, cond, not, _||_}
 use mathlib.Core.List.{List, [], _∷_}
-use lib.Dec.{leb, eqb}
+use lib.Dec.{ltb, leb, eqb}
+use lib.ListN.{length}
 use Rattle.words.specs.Answers.{Answer, gives, first, unless}
 use Rattle.words.specs.Bytes.{stored}
-use Rattle.fields.specs.Fields.{field, withField}
+use Rattle.fields.specs.Bits.{field, withField}
 
 unfoldable pub fields : ℕ → List ℕ → ℕ → List ℕ
 fields p [] x = []
@@ -40,9 +42,12 @@ wider [] vs = false
 wider (w ∷ ws) [] = false
 wider (w ∷ ws) (v ∷ vs) = leb (2 ^ w) v || wider ws vs
 
+unfoldable pub misfit : List ℕ → List ℕ → Bool
+misfit ws vs = not (eqb (length ws) (length vs)) || (ltb 64 (total ws) || wider ws vs)
+
 abbrev pub writtenUnless : ℕ → ℕ → List ℕ → List ℕ → List ℕ → List ℕ
 writtenUnless number n ws vs s = cond (eqb number 0) (stored s 0 n (withFields 0 ws 0 vs)) s
 
 -- 17 is document 01's "a number outside its range"
 unfoldable pub writtenWord : List ℕ → List ℕ → Answer
-writtenWord ws vs = unless (first ((wider ws vs, 17) ∷ [])) (gives (withFields 0 ws 0 vs ∷ []))
+writtenWord ws vs = unless (first ((misfit ws vs, 17) ∷ [])) (gives (withFields 0 ws 0 vs ∷ []))

@@ -1,7 +1,7 @@
 // A field of a number: `width` bits from place `at`, read and written.
 ghost use mathlib.Core.Path.{_≡_};
 ghost use Prim.Native.Nat.{_*_, _/_, _%_, _^_};
-ghost use Rattle.fields.specs.Fields.{field, fieldStored};
+ghost use Rattle.fields.specs.Bits.{field, fieldStored};
 
 // What stands from place `at` on.
 fn above(x: u64, at: u32) -> u64

@@ -1,13 +1,13 @@
 // Structures by themselves: document 01's VSEC structure and PFS entry, read and written back.
-use entries::entry;
 use libc::STDOUT_FILENO;
-use report::answers::outcome;
-use report::answers::refusal;
+use report::endings::outcome;
+use report::endings::refusal;
 use text::numerals::hex;
 use text::numerals::labelled;
 use text::numerals::labelled_hex;
 use text::page::put;
 use text::page::shown;
+use tpmi_entries::entry;
 use words::bytes::u8_at;
 
 // The bytes of a part in their order, two digits each.
@@ -53,18 +53,18 @@ pub(crate) fn structure() {
     let mut page = [0u8; 128];
     let mut at = put(&mut page, 0, b"VSEC");
     at = bytes(&mut page, at, &part);
-    match vsec::structure::read(&part) {
-        vsec::structure::Decoded::Structure(v) => {
+    match tpmi_structure::structure::read(&part) {
+        tpmi_structure::structure::Decoded::Structure(v) => {
             at = labelled(&mut page, at, b": entries ", v.entries);
             at = labelled(&mut page, at, b", tBIR ", v.bir);
             at = labelled(&mut page, at, b", table at ", v.offset);
             at = put(&mut page, at, b"\n");
             io::write_all(STDOUT_FILENO, shown(&page, at));
             let mut blank = [0u8; 16];
-            let came = vsec::structure::write(&mut blank, v);
+            let came = tpmi_structure::structure::write(&mut blank, v);
             back(&blank, came);
         }
-        vsec::structure::Decoded::Refused(n) => {
+        tpmi_structure::structure::Decoded::Refused(n) => {
             at = refusal(&mut page, at, n);
             io::write_all(STDOUT_FILENO, shown(&page, at));
         }

@@ -1,8 +1,8 @@
 // Lists the features of a capture on standard input, or says why it does not.
 use libc::STDIN_FILENO;
 use libc::STDOUT_FILENO;
-use places::found::Value;
 use text::page::shown;
+use words::answers::Value;
 
 fn main() {
     // The longest input that is looked at: a configuration space and two captures of 65,536 bytes with their heads.
@@ -10,7 +10,7 @@ fn main() {
     let n = io::read_full(STDIN_FILENO, &mut input);
     // As long as the longest listing, so that none is refused.
     let mut page = [0u8; 15810];
-    let listed = output::whole::list(&input[..n], &mut page);
+    let listed = list_output::output::list(&input[..n], &mut page);
     let Value::Is(many) = listed else {
         return;
     };

@@ -1,19 +1,21 @@
-// A worked night of energy readings, with the wattmeter's sum beside the meter's. The calls are those of energy's specs/Night.antt, one line for
-// each with what came; the wattmeter sums the whole counts, which no call is handed. After it document 01's bench cases of a gap and of a
+// A worked night of energy readings, with the wattmeter's sum beside the meter's. The calls are those of energy_account's specs/Night.antt, one
+// line for each with what came; the wattmeter sums the whole counts, which no call is handed. After it document 01's bench cases of a gap and of a
 // turnover.
-use channel::calls::Answered;
-use channel::calls::Call;
-use channel::calls::Opening;
-use channel::calls::Reading;
-use channel::record::Channel;
-use energy::hall;
+use energy_calls::calls::Answered;
+use energy_calls::calls::Call;
+use energy_calls::calls::Opening;
+use energy_calls::calls::Reading;
+use energy_calls::calls::opening_of;
+use energy_calls::calls::reading_of;
+use energy_channel::channel::Channel;
+use energy_hall::hall;
 use libc::STDOUT_FILENO;
-use places::found::Value;
-use report::answers::refusal;
-use report::answers::value;
+use report::endings::refusal;
+use report::endings::value;
 use text::numerals::labelled;
 use text::page::put;
 use text::page::shown;
+use words::answers::Value;
 
 fn seen_text(page: &mut [u8], at: usize, seen: Reading) -> usize {
     let tick = labelled(page, at, b" tick ", seen.tick);
@@ -22,7 +24,7 @@ fn seen_text(page: &mut [u8], at: usize, seen: Reading) -> usize {
 
 fn opening_text(page: &mut [u8], at: usize, n: usize, asked: Opening) -> usize {
     let channel = labelled(page, at, b"open ", n as u64);
-    let unit = labelled(page, channel, b" unit ", asked.unit as u64);
+    let unit = labelled(page, channel, b" unit ", asked.unit);
     let gap = labelled(page, unit, b" gap ", asked.gap as u64);
     let seen = asked.seen;
     seen_text(page, gap, seen)
@@ -72,29 +74,16 @@ fn run(channels: [Channel; 64], n: usize, call: Call) -> [Channel; 64] {
     after.channels
 }
 
-fn opening(unit: u8, gap: u32, tick: u64, status: u64) -> Call {
-    Call::Open(Opening {
-        unit: unit,
-        gap: gap,
-        seen: Reading {
-            tick: tick,
-            status: status,
-        },
-    })
+fn opening(unit: u64, gap: u32, tick: u64, status: u64) -> Call {
+    Call::Open(opening_of(unit, gap, tick, status))
 }
 
 fn reading(tick: u64, status: u64) -> Call {
-    Call::Read(Reading {
-        tick: tick,
-        status: status,
-    })
+    Call::Read(reading_of(tick, status))
 }
 
 fn resumption(tick: u64, status: u64) -> Call {
-    Call::Resume(Reading {
-        tick: tick,
-        status: status,
-    })
+    Call::Resume(reading_of(tick, status))
 }
 
 fn night() -> [Channel; 64] {
@@ -132,10 +121,10 @@ fn bench(channels: [Channel; 64]) -> [Channel; 64] {
     run(c4, 8, Call::Ask)
 }
 
-fn hall_total(channels: [Channel; 64], unit: u8) {
+fn hall_total(channels: [Channel; 64], unit: u64) {
     line(
         b"hall total of unit ",
-        unit as u64,
+        unit,
         hall::hall_total(channels, unit),
     );
 }

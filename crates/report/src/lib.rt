@@ -1,2 +1,2 @@
-// What the meter's calls answer, as the end of a line of text (`answers`). No call asks anything of its caller.
-pub mod answers;
+// What the meter's calls answer, as the end of a line of text (`endings`). No call asks anything of its caller.
+pub mod endings;

@@ -8,21 +8,23 @@ use lib.ListN.{getD}
 use Rattle.words.specs.Answers.{Answer, gives, valueIn}
 use Rattle.words.specs.Bytes.{numberAt}
 use Rattle.words.proofs.AnswerLaws.{unless-passes, unless-both}
-use Rattle.fields.specs.Fields.{field}
+use Rattle.fields.specs.Bits.{field}
 use Rattle.fields.specs.Masks.{howMany}
-use Rattle.discovery.specs.Discovery.{Capture, barOf}
-use Rattle.discovery.proofs.DiscoveryFact.{discovery-fact}
-use Rattle.features.specs.Places.{bankFor, featureNumber, instanceNumber, instancePart}
-use Rattle.counts.specs.Facts.{found}
-use Rattle.counts.proofs.CountFact.{count-fact}
-use Rattle.rapl.specs.Lookups.{chainFor}
-use Rattle.rapl.specs.Facts.{IsChain}
-use Rattle.rapl.proofs.ChainFact.{chain-fact}
-use Rattle.rapl.proofs.CaptureFact.{capture-fact}
-use Rattle.permits.specs.Permits.{placeOf, widthOf}
-use Rattle.writes.specs.Writes.{nextContent, nextOf, nextFor, writeNumber, limitPlace}
-use Rattle.writes.proofs.NextFact.{next-fact}
-use Rattle.writes.proofs.WriteFact.{captures-fact, write-fact}
+use Rattle.capture.specs.Capture.{Capture}
+use Rattle.tpmi_discovery.specs.Table.{barOf}
+use Rattle.tpmi_discovery.proofs.DiscoveryFact.{discovery-fact}
+use Rattle.tpmi_features.specs.Instances.{bankFor, featureNumber, instanceNumber, instancePart}
+use Rattle.tpmi_counts.specs.Facts.{found}
+use Rattle.tpmi_counts.proofs.CountFact.{count-fact}
+use Rattle.rapl_lookups.specs.Lookups.{chainFor}
+use Rattle.rapl_chains.specs.Facts.{IsChain}
+use Rattle.rapl_chains.proofs.ChainFact.{chain-fact}
+use Rattle.rapl_lookups.proofs.CaptureFact.{capture-fact}
+use Rattle.rapl_permits.specs.Permits.{lowestOf, widthOf}
+use Rattle.rapl_writes.specs.Next.{nextContent, nextOf, nextFor}
+use Rattle.rapl_writes.specs.Write.{writeNumber, limitPlace}
+use Rattle.rapl_writes.proofs.NextFact.{next-fact}
+use Rattle.rapl_writes.proofs.WriteFact.{captures-fact, write-fact}
 use Rattle.stamp.specs.Table.{blank, board}
 use Rattle.stamp.specs.Dummies.{Permitted, PermitsExactly, StoresOf, CountsOf, ChainsOf, OfAWrite, twoLines, family, DummiesFall}
 use Rattle.stamp.proofs.Worked.{blank-accepted, board-permitted, board-zero, board-bytes, counted, two-counted, climbed, two-climbed}
@@ -63,7 +65,7 @@ same-value e = ap (λ (a : Answer). valueIn a 0) e
 no-field : (left : OfAWrite (List ℕ)) → StoresOf left → left board 0 0 1 0 1000 ≢ barOf board
 no-field left s e =
     let r = s board 0 0 1 0 1000 board-bytes board-permitted .reads in
-    let z : _≡_ {A = ℕ} 0 1000 = sym board-zero ∙ ap (λ (l : List ℕ). field (placeOf 0) (widthOf 0) (numberAt l (limitPlace board 0 0 1) 8)) (sym e) ∙ r in
+    let z : _≡_ {A = ℕ} 0 1000 = sym board-zero ∙ ap (λ (l : List ℕ). field (lowestOf 0) (widthOf 0) (numberAt l (limitPlace board 0 0 1) 8)) (sym e) ∙ r in
     omega arith
 
 module _ (count : Capture → ℕ → Answer) (k : CountsOf count) (f : ℕ → ℕ)

@@ -1,5 +1,5 @@
 pub mod Unique
 pub mod Table
-pub mod Roads
 pub mod Worked
+pub mod Roads
 pub mod Dummies

@@ -9,25 +9,28 @@ use Rattle.words.specs.Answers.{gives}
 use Rattle.words.specs.Bytes.{numberAt}
 use Rattle.words.proofs.AnswerLaws.{unless-both, unless-passes}
 use Rattle.words.proofs.NumberLaws.{number-part}
-use Rattle.banks.specs.Faults.{bankOf, bankIn}
-use Rattle.banks.specs.Facts.{Filled}
-use Rattle.banks.specs.declared.faults.Bank.{Bank}
-use Rattle.discovery.specs.Discovery.{Capture, birOf, barOf, tableOf}
-use Rattle.features.specs.Places.{bankFor, sizeFor, featureNumber, startFor, instanceNumber, instancePart}
-use Rattle.features.proofs.LookupFact.{lookup-fact, place-fact}
-use Rattle.features.proofs.InsideLaws.{feature-found}
-use Rattle.registers.specs.Registers.{registerNumber, registerPlaceOf, registerOf}
-use Rattle.registers.proofs.RegisterLaws.{content-found}
-use Rattle.registers.proofs.RegisterPlaceFact.{register-place-fact}
-use Rattle.domains.proofs.DomainFact.{domain-fact}
-use Rattle.contents.specs.Registers.{registerPlace, registerAt, contentOf}
-use Rattle.contents.proofs.RegisterFact.{register-fact}
-use Rattle.rapl.specs.Lookups.{contentFor}
-use Rattle.writes.specs.Writes.{nextOf, nextFor, writeNumber, limitPlace}
-use Rattle.writes.proofs.NextLaws.{given-by, next-inside}
-use Rattle.writes.proofs.WriteFact.{captures-fact}
-use Rattle.listing.specs.Facts.{entryIn}
-use Rattle.stamp.specs.Roads.{Stands, placeBy, domainOffset, FormulaFact, RoadsFact}
+use Rattle.tpmi_banks.specs.Faults.{bankOf, bankIn}
+use Rattle.tpmi_banks.specs.Facts.{Filled}
+use Rattle.tpmi_banks.specs.declared.faults.Bank.{Bank}
+use Rattle.capture.specs.Capture.{Capture}
+use Rattle.tpmi_discovery.specs.Table.{birOf, barOf, tableOf}
+use Rattle.tpmi_features.specs.Instances.{bankFor, sizeFor, featureNumber, startFor, instanceNumber, instancePart}
+use Rattle.tpmi_features.proofs.LookupFact.{lookup-fact, place-fact}
+use Rattle.tpmi_features.proofs.InsideLaws.{feature-found}
+use Rattle.tpmi_registers.specs.Registers.{registerNumber, registerPlaceOf, registerOf}
+use Rattle.tpmi_registers.proofs.RegisterLaws.{content-found}
+use Rattle.tpmi_registers.proofs.RegisterPlaceFact.{register-place-fact}
+use Rattle.rapl_domains.proofs.DomainFact.{domain-fact}
+use Rattle.rapl_registers.specs.Contents.{registerPlace, registerAt, contentOf}
+use Rattle.rapl_registers.proofs.ContentFact.{register-fact}
+use Rattle.rapl_lookups.specs.Lookups.{contentFor}
+use Rattle.rapl_writes.specs.Next.{nextOf, nextFor}
+use Rattle.rapl_writes.specs.Write.{writeNumber, limitPlace}
+use Rattle.rapl_writes.proofs.NextLaws.{given-by, next-inside}
+use Rattle.rapl_writes.proofs.WriteFact.{captures-fact}
+use Rattle.tpmi_features.specs.Entries.{entryThere}
+use Rattle.stamp.specs.Roads.{Stands, placeBy, domainOffset, FormulaFact, RoadsFact, StoreBounds}
+use Rattle.stamp.proofs.Worked.{board-found, board-invalid}
 
 -- ---- the formula
 
@@ -44,11 +47,11 @@ module _ (c : Capture) (id k : ℕ) (f : featureNumber c id ≡ 0) (s : Stands c
   only : bankIn (barOf c) (tableOf c) k ≡ bankFor c id
   only = place-fact c id 0 .only f k (s .in-table) filled named
 
-  place-is : (i at : ℕ) → startFor c id i + at ≡ placeBy c (entryIn c k) i at
+  place-is : (i at : ℕ) → startFor c id i + at ≡ placeBy c (entryThere c k) i at
   unfolding bankIn bankOf
   place-is i at =
       ap (λ (b : Bank). b .start + i * (b .words * 4) + at) (sym only)
-      ∙ ap (λ (x : ℕ). tableOf c + entryIn c k .offset * 1024 + x + at) (sym (mul-assoc i (entryIn c k .words) 4))
+      ∙ ap (λ (x : ℕ). tableOf c + entryThere c k .offset * 1024 + x + at) (sym (mul-assoc i (entryThere c k .words) 4))
 
 stands-some : (c : Capture) (id : ℕ) → featureNumber c id ≡ 0 → (k : ℕ) × Stands c id k
 unfolding bankIn bankOf
@@ -120,7 +123,7 @@ module _ (c : Capture) (i n : ℕ) where
     stored-at =
         unless-passes _ stored-in ∙ ap (λ (at : ℕ). gives (birOf c ∷ (startFor c 0 i + at) ∷ 8 ∷ 1 ∷ [])) (sym (same-offset n (limit + 1)))
 
-    stored-by : (k : ℕ) → Stands c 0 k → limitPlace c i n limit ≡ placeBy c (entryIn c k) i (domainOffset n (limit + 1))
+    stored-by : (k : ℕ) → Stands c 0 k → limitPlace c i n limit ≡ placeBy c (entryThere c k) i (domainOffset n (limit + 1))
     stored-by k s =
         ap (λ (at : ℕ). startFor c 0 i + at) (same-offset n (limit + 1)) ∙ place-is c 0 k (feature-found c 0 i (asked .0)) s i (domainOffset n (limit + 1))
 
@@ -132,3 +135,13 @@ module _ (c : Capture) (i n : ℕ) where
         limit-place = stored-at;
         limit-formula = stored-by;
       }
+
+pub store-bounds : StoreBounds
+store-bounds =
+    record {
+      first = record { found = board-found .0; inside = omega (arith, board-found .1) };
+      last = record { found = board-found .0; inside = omega (arith, board-found .1) };
+      odd = record { found = board-found .0; inside = omega (arith, board-found .1) };
+      past = λ w. omega (arith, w .inside, board-found .1);
+      invalid = board-invalid;
+    }

@@ -1,4 +1,4 @@
--- The table of document 01's P cases holds, by one computation; and its test is equality of answers. Assumes nothing.
+-- The table of document 01's P cases bears, by one computation; and its test is equality of answers. Assumes nothing.
 use Prim.Native.Nat.{ℕ}
 use mathlib.Core.Path.{_≡_, refl, ap, ap₂, subst}
 use mathlib.Core.Bool.{true, false≢true}
@@ -8,24 +8,26 @@ use borrow.Author.Tests.{eqb-true, eq-eqb}
 use Rattle.words.specs.Answers.{Answer, refused, gives, first, orElse, earliest}
 use Rattle.words.specs.Below.{anyBelow, firstBelow, least}
 use Rattle.words.specs.Bytes.{numberAt, put}
-use Rattle.fields.specs.Fields.{field, withField}
+use Rattle.fields.specs.Bits.{field, withField}
 use Rattle.words.proofs.TestLaws.{and-both, and-holds}
-use Rattle.vsec.specs.Structure.{vsecOf, vsecAt, fixedWrong, readNumber, readOf}
-use Rattle.walk.specs.Walk.{identifierAt, nextAt, vsecIdAt, followed, takenAt, headerAt, walkFrom, emptyList, walkOf}
-use Rattle.entries.specs.Entry.{entryOf, entryAt}
-use Rattle.banks.specs.Faults.{bankOf, bankIn, emptyBank, repeats, meets, faultAt, faultsOf}
-use Rattle.discovery.specs.Discovery.{structureOf, barOf, misshapen, beforeWalk, birNumber, tableNumber, numberOf, discoveryOf}
-use Rattle.features.specs.Places.{indexIn, missing, bankFor, featureNumber, featureOf, invalidAt, unsound, instanceNumber, instancePart}
-use Rattle.windows.specs.Windows.{quartersOf, longEnough, placeOf, windowNumber, windowOf}
-use Rattle.domains.specs.Domains as domains
-use Rattle.domains.specs.Domains.{headerOf, headerIn, unused, wrong, domainNumber}
-use Rattle.contents.specs.Registers.{present, registerAt, absent, contentNumber, contentOf}
-use Rattle.rapl.specs.Lookups.{contentFor}
-use Rattle.permits.specs.Permits as permits
-use Rattle.permits.specs.Permits.{widthOf, aLimit, unwritable, refusalOf}
-use Rattle.writes.specs.Writes.{nextContent, nextNumber, nextOf, nextFor, writeNumber, barLeft, lowLeft, highLeft}
-use Rattle.channel.specs.Channels.{inRange, isOpen, tests, values, taken}
-use Rattle.energy.specs.Hall.{testsOn, answerOn, leavesOn}
+use Rattle.tpmi_structure.specs.Structure.{vsecOf, vsecAt, fixedWrong, readNumber, readOf}
+use Rattle.tpmi_walk.specs.Walk.{identifierAt, nextAt, vsecIdAt, followed, takenAt, headerAt, walkFrom, emptyList, walkOf}
+use Rattle.tpmi_entries.specs.Entry.{entryOf, entryAt}
+use Rattle.tpmi_banks.specs.Faults.{bankOf, bankIn, emptyBank, repeats, meets, faultAt, faultsOf}
+use Rattle.capture.specs.Places.{named}
+use Rattle.tpmi_discovery.specs.Table.{structureOf, barOf, misshapen, beforeWalk, birNumber, tableNumber, locationNumber}
+use Rattle.tpmi_discovery.specs.Discovery.{discoveryNumber, discoveryOf}
+use Rattle.tpmi_features.specs.Instances.{indexIn, unlisted, bankFor, featureNumber, featureOf, invalidAt, unusable, instanceNumber, instancePart}
+use Rattle.rapl_windows.specs.Windows.{quartersOf, longEnough, firstLong, windowNumber, windowOf}
+use Rattle.rapl_domains.specs.Domains.{headerOf, headerIn, unused, wrong, domainNumber, missing, unsound}
+use Rattle.rapl_registers.specs.Contents.{present, registerAt, absent, contentNumber, contentOf}
+use Rattle.rapl_lookups.specs.Lookups.{contentFor}
+use Rattle.rapl_permits.specs.Permits.{lowestOf, widthOf, aLimit, unwritable, refusalOf}
+use Rattle.tpmi_store.specs.Store.{inLow, inHigh}
+use Rattle.rapl_writes.specs.Next.{nextContent, nextNumber, nextOf, nextFor}
+use Rattle.rapl_writes.specs.Write.{writeNumber, left}
+use Rattle.energy_channel.specs.Channel.{inRange, isOpen, tests, values, taken}
+use Rattle.energy_hall.specs.Hall.{testsOn, answerOn, leavesOn}
 use Rattle.stamp.specs.Table.{Row, sameNumbers, same, allSame, table, AllDue, SameFact, RowsFact, TableFact}
 
 -- ---- the test is equality
@@ -68,7 +70,7 @@ rows-fact rs = (rows-due rs, due-rows rs)
 -- ---- the table
 
 pub table-fact : TableFact
-unfolding first orElse earliest anyBelow firstBelow least numberAt put field withField vsecOf vsecAt fixedWrong readNumber readOf identifierAt nextAt vsecIdAt followed takenAt headerAt walkFrom emptyList walkOf entryOf entryAt bankOf bankIn emptyBank repeats meets faultAt faultsOf structureOf barOf misshapen beforeWalk birNumber tableNumber numberOf discoveryOf indexIn missing bankFor featureNumber featureOf invalidAt unsound instanceNumber instancePart quartersOf longEnough placeOf windowNumber windowOf headerOf headerIn unused wrong domains.missing domains.unsound domainNumber present registerAt absent contentNumber contentOf contentFor permits.placeOf widthOf aLimit unwritable refusalOf nextContent nextNumber nextOf nextFor writeNumber barLeft lowLeft highLeft inRange isOpen tests values taken testsOn answerOn leavesOn
+unfolding first orElse earliest anyBelow firstBelow least numberAt put field withField vsecOf vsecAt fixedWrong readNumber readOf identifierAt nextAt vsecIdAt followed takenAt headerAt walkFrom emptyList walkOf entryOf entryAt bankOf bankIn emptyBank repeats meets faultAt faultsOf structureOf named barOf misshapen beforeWalk birNumber tableNumber locationNumber discoveryNumber discoveryOf indexIn unlisted bankFor featureNumber featureOf invalidAt unusable instanceNumber instancePart quartersOf longEnough firstLong windowNumber windowOf headerOf headerIn unused wrong missing unsound domainNumber present registerAt absent contentNumber contentOf contentFor lowestOf widthOf aLimit unwritable refusalOf nextContent nextNumber nextOf nextFor writeNumber inLow inHigh left inRange isOpen tests values taken testsOn answerOn leavesOn
 table-fact = refl
 
 -- so every row is an equation

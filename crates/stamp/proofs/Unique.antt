@@ -1,32 +1,34 @@
 -- The records of specs/Unique: where a contract is an equation two results are equal at once, and where it says what an enum tells, since
 -- that is injective. Assumes nothing.
 use mathlib.Core.Path.{sym, _∙_}
-use Rattle.vsec.proofs.Theorems as vsec
-use Rattle.walk.proofs.Told as walk
-use Rattle.entries.proofs.Theorems as entries
-use Rattle.places.proofs.Told as places
-use Rattle.captures.proofs.Told as captures
-use Rattle.listing.proofs.Told as listing
-use Rattle.windows.proofs.Theorems as windows
-use Rattle.domains.proofs.Told as domains
-use Rattle.units.proofs.Theorems as units
-use Rattle.channel.proofs.Theorems as channel
-use Rattle.energy.proofs.Theorems as energy
-use Rattle.stamp.specs.Unique.{WordsUnique, CapturesUnique, StoresUnique, TextUnique, FieldsUnique, PlacesUnique, ReportUnique, ChannelUnique, VsecUnique, DomainsUnique, EntriesUnique, UnitsUnique, BanksUnique, EnergyUnique, WalkUnique, WindowsUnique, ContentsUnique, LimitsUnique, DiscoveryUnique, PermitsUnique, FeaturesUnique, RaplUnique, CountsUnique, RegistersUnique, WritesUnique, ListingUnique, OutputUnique}
+use Rattle.words.proofs.Told as words
+use Rattle.tpmi_structure.proofs.Theorems as structure
+use Rattle.tpmi_walk.proofs.Told as walk
+use Rattle.tpmi_entries.proofs.Theorems as entries
+use Rattle.capture.proofs.Told as places
+use Rattle.tpmi_discovery.proofs.Told as discovery
+use Rattle.list_input.proofs.Told as layout
+use Rattle.list_lines.proofs.Told as listing
+use Rattle.rapl_domains.proofs.Told as domains
+use Rattle.energy_calls.proofs.Theorems as calls
+use Rattle.energy_channel.proofs.Theorems as channel
+use Rattle.energy_hall.proofs.Theorems as energy
+use Rattle.stamp.specs.Unique.{WordsUnique, ListInputUnique, StoresUnique, TextUnique, FieldsUnique, CaptureUnique, ReportUnique, EnergyCallsUnique, EnergyChannelUnique, TpmiStructureUnique, RaplDomainsUnique, TpmiEntriesUnique, RaplUnitsUnique, TpmiBanksUnique, EnergyHallUnique, TpmiWalkUnique, RaplWindowsUnique, RaplRegistersUnique, RaplLimitsUnique, TpmiDiscoveryUnique, RaplPermitsUnique, TpmiFeaturesUnique, RaplChainsUnique, RaplLookupsUnique, TpmiCountsUnique, TpmiRegistersUnique, TpmiStoreUnique, RaplWritesUnique, ListLinesUnique, ListOutputUnique}
 
 pub words-unique : WordsUnique
 words-unique =
     record {
+      number-of = λ κs a x y s t p q. p ∙ sym q;
       u8-at = λ κs a x y s t p q. p ∙ sym q;
       u16-at = λ κs a x y s t p q. p ∙ sym q;
       u32-at = λ κs a x y s t p q. p ∙ sym q;
       u64-at = λ κs a x y s t p q. p ∙ sym q;
     }
 
-pub captures-unique : CapturesUnique
-captures-unique =
+pub list-input-unique : ListInputUnique
+list-input-unique =
     record {
-      layout-of = λ κs a x y s t p q. captures.laid-once x y (p ∙ sym q);
+      layout-of = λ κs a x y s t p q. layout.told-once x y (p ∙ sym q);
       config-in = λ κs a x y s t p q. p ∙ sym q;
       low-in = λ κs a x y s t p q. p ∙ sym q;
       high-in = λ κs a x y s t p q. p ∙ sym q;
@@ -62,10 +64,11 @@ fields-unique =
     record {
       field = λ κs a x y s t p q. p ∙ sym q;
       with-field = λ κs a x y s t p q. p ∙ sym q;
+      word-of = λ κs a x y s t p q. words.told-once x y (p ∙ sym q);
     }
 
-pub places-unique : PlacesUnique
-places-unique =
+pub capture-unique : CaptureUnique
+capture-unique =
     record {
       number-of = λ κs a x y s t p q. p ∙ sym q;
       bar-of = λ κs a x y s t p q. p ∙ sym q;
@@ -87,50 +90,62 @@ report-unique =
       place-kept = λ κs a x y s t p q. p .1 ∙ sym (q .1);
     }
 
-pub channel-unique : ChannelUnique
-channel-unique =
+pub energy-calls-unique : EnergyCallsUnique
+energy-calls-unique =
     record {
+      count-of = λ κs a x y s t p q. p ∙ sym q;
+      reading-of = λ κs a x y s t p q. p ∙ sym q;
+      opening-of = λ κs a x y s t p q. p ∙ sym q;
+      number-of = λ κs a x y s t p q. p ∙ sym q;
+    }
+
+pub energy-channel-unique : EnergyChannelUnique
+energy-channel-unique =
+    record {
+      is-open = λ κs a x y s t p q. p ∙ sym q;
       take = λ κs a x y s t p q. channel.one-after _ _ x y (p .0) (p .1) (q .0) (q .1);
       closed-channel = λ κs a x y s t p q. p ∙ sym q;
       share = λ κs a x y s t p q. p ∙ sym q;
     }
 
-pub vsec-unique : VsecUnique
-vsec-unique =
+pub tpmi-structure-unique : TpmiStructureUnique
+tpmi-structure-unique =
     record {
+      number-of = λ κs a x y s t p q. p ∙ sym q;
       vsec-at = λ κs a x y s t p q. p ∙ sym q;
-      read-call = λ κs a x y s t p q. vsec.decoded-once x y (p ∙ sym q);
+      read-call = λ κs a x y s t p q. structure.told-once x y (p ∙ sym q);
       write-call = λ κs a x y s t p q. p .0 ∙ sym (q .0);
       write-call-kept = λ κs a x y s t p q. p .1 ∙ sym (q .1);
       fixed-wrong = λ κs a x y s t p q. p ∙ sym q;
     }
 
-pub domains-unique : DomainsUnique
-domains-unique =
+pub rapl-domains-unique : RaplDomainsUnique
+rapl-domains-unique =
     record {
       read-call = λ κs a x y s t p q. p ∙ sym q;
       number-of = λ κs a x y s t p q. p ∙ sym q;
       domain-in = λ κs a x y s t p q. domains.told-once x y (p ∙ sym q);
     }
 
-pub entries-unique : EntriesUnique
-entries-unique =
+pub tpmi-entries-unique : TpmiEntriesUnique
+tpmi-entries-unique =
     record {
+      number-of = λ κs a x y s t p q. p ∙ sym q;
       entry-at = λ κs a x y s t p q. p ∙ sym q;
-      read-call = λ κs a x y s t p q. entries.decoded-once x y (p ∙ sym q);
+      read-call = λ κs a x y s t p q. entries.told-once x y (p ∙ sym q);
       write-call = λ κs a x y s t p q. p .0 ∙ sym (q .0);
       write-call-kept = λ κs a x y s t p q. p .1 ∙ sym (q .1);
     }
 
-pub units-unique : UnitsUnique
-units-unique =
+pub rapl-units-unique : RaplUnitsUnique
+rapl-units-unique =
     record {
       read-call = λ κs a x y s t p q. p ∙ sym q;
-      write-call = λ κs a x y s t p q. units.written-once x y (p ∙ sym q);
+      write-call = λ κs a x y s t p q. words.told-once x y (p ∙ sym q);
     }
 
-pub banks-unique : BanksUnique
-banks-unique =
+pub tpmi-banks-unique : TpmiBanksUnique
+tpmi-banks-unique =
     record {
       bank-in = λ κs a x y s t p q. p ∙ sym q;
       empty = λ κs a x y s t p q. p ∙ sym q;
@@ -138,8 +153,8 @@ banks-unique =
       faults = λ κs a x y s t p q. p ∙ sym q;
     }
 
-pub energy-unique : EnergyUnique
-energy-unique =
+pub energy-hall-unique : EnergyHallUnique
+energy-hall-unique =
     record {
       all-closed = λ κs a x y s t p q. p ∙ sym q;
       call-on = λ κs a x y s t p q. energy.one-hall-after _ _ _ x y (p .0) (p .1) (q .0) (q .1);
@@ -147,103 +162,120 @@ energy-unique =
       read-call = λ κs a x y s t p q. energy.one-hall-after _ _ _ x y (p .0) (p .1) (q .0) (q .1);
       resume = λ κs a x y s t p q. energy.one-hall-after _ _ _ x y (p .0) (p .1) (q .0) (q .1);
       close-call = λ κs a x y s t p q. energy.one-hall-after _ _ _ x y (p .0) (p .1) (q .0) (q .1);
-      total = λ κs a x y s t p q. channel.told-once x y (p ∙ sym q);
-      hall-total = λ κs a x y s t p q. channel.told-once x y (p ∙ sym q);
+      total = λ κs a x y s t p q. calls.told-once x y (p ∙ sym q);
+      hall-total = λ κs a x y s t p q. calls.told-once x y (p ∙ sym q);
     }
 
-pub walk-unique : WalkUnique
-walk-unique =
+pub tpmi-walk-unique : TpmiWalkUnique
+tpmi-walk-unique =
     record {
-      walk = λ κs a x y s t p q. walk.walked-once x y (p ∙ sym q);
+      number-of = λ κs a x y s t p q. p ∙ sym q;
+      walk = λ κs a x y s t p q. walk.told-once x y (p ∙ sym q);
     }
 
-pub windows-unique : WindowsUnique
-windows-unique =
+pub rapl-windows-unique : RaplWindowsUnique
+rapl-windows-unique =
     record {
-      window-code = λ κs a x y s t p q. windows.told-once x y (p ∙ sym q);
+      window-code = λ κs a x y s t p q. words.told-once x y (p ∙ sym q);
       quarters = λ κs a x y s t p q. p ∙ sym q;
     }
 
-pub contents-unique : ContentsUnique
-contents-unique =
+pub rapl-registers-unique : RaplRegistersUnique
+rapl-registers-unique =
     record {
       present = λ κs a x y s t p q. p ∙ sym q;
-      register-in = λ κs a x y s t p q. places.valued-once x y (p ∙ sym q);
+      register-in = λ κs a x y s t p q. words.told-once x y (p ∙ sym q);
     }
 
-pub limits-unique : LimitsUnique
-limits-unique =
+pub rapl-limits-unique : RaplLimitsUnique
+rapl-limits-unique =
     record {
       read-call = λ κs a x y s t p q. p ∙ sym q;
-      write-call = λ κs a x y s t p q. units.written-once x y (p ∙ sym q);
+      write-call = λ κs a x y s t p q. words.told-once x y (p ∙ sym q);
     }
 
-pub discovery-unique : DiscoveryUnique
-discovery-unique =
+pub tpmi-discovery-unique : TpmiDiscoveryUnique
+tpmi-discovery-unique =
     record {
-      discover = λ κs a x y s t p q. places.told-once x y (p ∙ sym q);
+      number-of = λ κs a x y s t p q. p ∙ sym q;
+      locate = λ κs a x y s t p q. discovery.told-once x y (p ∙ sym q);
+      discover = λ κs a x y s t p q. discovery.told-once x y (p ∙ sym q);
     }
 
-pub permits-unique : PermitsUnique
-permits-unique =
+pub rapl-permits-unique : RaplPermitsUnique
+rapl-permits-unique =
     record {
       span-of = λ κs a x y s t p q. p ∙ sym q;
       refusal = λ κs a x y s t p q. p ∙ sym q;
     }
 
-pub features-unique : FeaturesUnique
-features-unique =
+pub tpmi-features-unique : TpmiFeaturesUnique
+tpmi-features-unique =
     record {
+      entry = λ κs a x y s t p q. entries.told-once x y (p ∙ sym q);
       feature = λ κs a x y s t p q. places.told-once x y (p ∙ sym q);
       instance-place = λ κs a x y s t p q. places.told-once x y (p ∙ sym q);
       instance = λ κs a x y s t p q. p ∙ sym q;
       instance-number = λ κs a x y s t p q. p ∙ sym q;
     }
 
-pub rapl-unique : RaplUnique
-rapl-unique =
+pub rapl-chains-unique : RaplChainsUnique
+rapl-chains-unique =
     record {
-      chain-in = λ κs a x y s t p q. places.valued-once x y (p ∙ sym q);
-      domain = λ κs a x y s t p q. domains.told-once x y (p ∙ sym q);
-      register = λ κs a x y s t p q. places.valued-once x y (p ∙ sym q);
-      chain = λ κs a x y s t p q. places.valued-once x y (p ∙ sym q);
+      chain-in = λ κs a x y s t p q. words.told-once x y (p ∙ sym q);
     }
 
-pub counts-unique : CountsUnique
-counts-unique =
+pub rapl-lookups-unique : RaplLookupsUnique
+rapl-lookups-unique =
     record {
-      valid-count = λ κs a x y s t p q. places.valued-once x y (p ∙ sym q);
+      domain = λ κs a x y s t p q. domains.told-once x y (p ∙ sym q);
+      register = λ κs a x y s t p q. words.told-once x y (p ∙ sym q);
+      chain = λ κs a x y s t p q. words.told-once x y (p ∙ sym q);
+    }
+
+pub tpmi-counts-unique : TpmiCountsUnique
+tpmi-counts-unique =
+    record {
+      valid-count = λ κs a x y s t p q. words.told-once x y (p ∙ sym q);
       valid-in = λ κs a x y s t p q. p ∙ sym q;
     }
 
-pub registers-unique : RegistersUnique
-registers-unique =
+pub tpmi-registers-unique : TpmiRegistersUnique
+tpmi-registers-unique =
     record {
       register-place = λ κs a x y s t p q. places.told-once x y (p ∙ sym q);
-      register = λ κs a x y s t p q. places.valued-once x y (p ∙ sym q);
+      register = λ κs a x y s t p q. words.told-once x y (p ∙ sym q);
     }
 
-pub writes-unique : WritesUnique
-writes-unique =
+pub tpmi-store-unique : TpmiStoreUnique
+tpmi-store-unique =
     record {
-      next-in = λ κs a x y s t p q. places.valued-once x y (p ∙ sym q);
-      next = λ κs a x y s t p q. places.valued-once x y (p ∙ sym q);
+      store-low = λ κs a x y s t p q. p .0 ∙ sym (q .0);
+      store-high = λ κs a x y s t p q. p .1 ∙ sym (q .1);
+    }
+
+pub rapl-writes-unique : RaplWritesUnique
+rapl-writes-unique =
+    record {
+      next-in = λ κs a x y s t p q. words.told-once x y (p ∙ sym q);
+      next = λ κs a x y s t p q. words.told-once x y (p ∙ sym q);
       write-call = λ κs a x y s t p q. p .0 ∙ sym (q .0);
       write-call-low = λ κs a x y s t p q. p .1 .0 ∙ sym (q .1 .0);
       write-call-high = λ κs a x y s t p q. p .1 .1 ∙ sym (q .1 .1);
     }
 
-pub listing-unique : ListingUnique
-listing-unique =
+pub list-lines-unique : ListLinesUnique
+list-lines-unique =
     record {
-      listing-of = λ κs a x y s t p q. listing.listed-once x y (p ∙ sym q);
+      number-of = λ κs a x y s t p q. p ∙ sym q;
+      listing-of = λ κs a x y s t p q. listing.listing-told-once x y (p ∙ sym q);
       bar-in = λ κs a x y s t p q. p ∙ sym q;
-      line-of = λ κs a x y s t p q. listing.said-once x y (p ∙ sym q);
+      line-of = λ κs a x y s t p q. listing.line-told-once x y (p ∙ sym q);
     }
 
-pub output-unique : OutputUnique
-output-unique =
+pub list-output-unique : ListOutputUnique
+list-output-unique =
     record {
-      list = λ κs a x y s t p q. places.valued-once x y (p .0 ∙ sym (q .0));
+      list = λ κs a x y s t p q. words.told-once x y (p .0 ∙ sym (q .0));
       list-kept = λ κs a x y s t p q. p .1 ∙ sym (q .1);
     }

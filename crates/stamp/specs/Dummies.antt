@@ -1,6 +1,6 @@
 -- The wrong meters that must fall (document 01, "What the stamp certifies"), each by a theorem: what the meter must do is stated of any
--- function in the place of ours, ours keeps it, and no such meter does. (Of the total, always 0 or the first rise only: crate energy,
--- specs/Dummies.)
+-- function in the place of ours, ours keeps it, and no such meter does. (Of the total, always 0 or the first rise only: crate
+-- energy_account, specs/Dummies.)
 --   AcceptsExactly number   discovery accepts a capture exactly if it keeps the rules
 --   PermitsExactly number   the write of a field is permitted exactly if Permitted says so
 --   StoresOf left           what a permitted write leaves in the BAR capture: the field stored, and no other bit changed
@@ -17,20 +17,22 @@ use lib.ListN.{replicate}
 use Rattle.words.specs.Answers.{Answer, gives}
 use Rattle.words.specs.Bytes.{AllBytes}
 use Rattle.fields.specs.Masks.{howMany}
-use Rattle.discovery.specs.Discovery.{Capture, captured, barOf, numberOf}
-use Rattle.discovery.specs.Facts.{Keeps}
-use Rattle.features.specs.Places.{bankFor, featureNumber, instanceNumber, instancePart}
-use Rattle.counts.specs.Valid.{countOf}
-use Rattle.counts.specs.Facts.{found}
-use Rattle.domains.specs.Domains.{headerIn}
-use Rattle.domains.specs.Facts.{Sound}
-use Rattle.contents.specs.Registers.{registerAt}
-use Rattle.rapl.specs.Lookups.{chainFor}
-use Rattle.rapl.specs.Facts.{IsChain}
-use Rattle.permits.specs.Permits.{widthOf}
-use Rattle.permits.specs.Facts.{Open, Locked}
-use Rattle.writes.specs.Writes.{writeNumber, barLeft}
-use Rattle.writes.specs.Facts.{StoredIn}
+use Rattle.capture.specs.Capture.{Capture, captured}
+use Rattle.tpmi_discovery.specs.Table.{barOf}
+use Rattle.tpmi_discovery.specs.Discovery.{discoveryNumber}
+use Rattle.tpmi_discovery.specs.Facts.{Keeps}
+use Rattle.tpmi_features.specs.Instances.{bankFor, featureNumber, instanceNumber, instancePart}
+use Rattle.tpmi_counts.specs.Valid.{validCountOf}
+use Rattle.tpmi_counts.specs.Facts.{found}
+use Rattle.rapl_domains.specs.Domains.{headerIn}
+use Rattle.rapl_domains.specs.Facts.{Sound}
+use Rattle.rapl_registers.specs.Contents.{registerAt}
+use Rattle.rapl_lookups.specs.Lookups.{chainFor}
+use Rattle.rapl_chains.specs.Facts.{IsChain}
+use Rattle.rapl_permits.specs.Permits.{widthOf}
+use Rattle.rapl_permits.specs.Facts.{Open, Locked}
+use Rattle.rapl_writes.specs.Write.{writeNumber, barLeft}
+use Rattle.rapl_writes.specs.Facts.{StoredIn}
 use Rattle.stamp.specs.Table.{config, rapl, capture, board}
 
 -- ---- what a meter must do
@@ -77,7 +79,7 @@ family parent = capture 4 (replicate 4080 0 ++ 1 ∷ 2 ∷ 1 ∷ 0 ∷ replicate
 
 pub record DummiesFall : Type 0 where
   -- one that refuses everything: some capture keeps the rules, and some write is permitted
-  pub ours-accepts : AcceptsExactly numberOf
+  pub ours-accepts : AcceptsExactly discoveryNumber
   pub refuses-everything : (number : Capture → ℕ) → ((c : Capture) → number c ≢ 0) → AcceptsExactly number → ⊥
   pub ours-permits : PermitsExactly writeNumber
   pub refuses-every-write : (number : OfAWrite ℕ) → ((c : Capture) (i n limit which value : ℕ) → number c i n limit which value ≢ 0) → PermitsExactly number → ⊥
@@ -85,7 +87,7 @@ pub record DummiesFall : Type 0 where
   pub ours-stores : StoresOf barLeft
   pub writes-no-field : (left : OfAWrite (List ℕ)) → StoresOf left → left board 0 0 1 0 1000 ≢ barOf board
   -- an invented valid count, even one that hangs on the number of instances: the bytes decide
-  pub ours-counts : CountsOf countOf
+  pub ours-counts : CountsOf validCountOf
   pub invents-a-count : (count : Capture → ℕ → Answer) → CountsOf count
       → (f : ℕ → ℕ) → ((c : Capture) (id : ℕ) → featureNumber c id ≡ 0 → count c id ≡ gives (f (bankFor c id .instances) ∷ [])) → ⊥
   -- an invented chain length, even one that hangs on the numbers of the instance and the domain: the bytes decide

@@ -16,15 +16,18 @@ use mathlib.Core.List.{List, [], _∷_, _++_}
 use lib.Dec.{eqb}
 use lib.ListN.{replicate}
 use Rattle.words.specs.Answers.{Answer, refused, gives}
-use Rattle.vsec.specs.Structure.{readOf}
-use Rattle.discovery.specs.Discovery.{Capture, captured, discoveryOf}
-use Rattle.features.specs.Places.{featureOf}
-use Rattle.windows.specs.Windows.{windowOf}
-use Rattle.rapl.specs.Lookups.{contentFor}
-use Rattle.writes.specs.Writes.{nextFor, lowLeft, highLeft}
-use Rattle.energy.specs.Hall.{Named, allClosed, answerOn, leavesAll}
-use Rattle.channel.specs.declared.calls.Call.{Call}
-use Rattle.channel.specs.declared.calls.Call.the-variants.{Open, Read, Ask}
+use Rattle.tpmi_structure.specs.Structure.{readOf}
+use Rattle.capture.specs.Capture.{Capture, captured}
+use Rattle.tpmi_discovery.specs.Discovery.{discoveryOf}
+use Rattle.tpmi_features.specs.Instances.{featureOf}
+use Rattle.rapl_windows.specs.Windows.{windowOf}
+use Rattle.rapl_lookups.specs.Lookups.{contentFor}
+use Rattle.rapl_writes.specs.Next.{nextFor}
+use Rattle.rapl_writes.specs.Write.{left}
+use Rattle.energy_hall.specs.Hall.{Named, allClosed, answerOn, leavesAll}
+use Rattle.energy_calls.specs.Calls.{readingOf, openingOf}
+use Rattle.energy_calls.specs.declared.calls.Call.{Call}
+use Rattle.energy_calls.specs.declared.calls.Call.the-variants.{Open, Read, Ask}
 
 pub record Row : Type 0 where
   pub asked : Answer
@@ -62,10 +65,10 @@ blank offset n = capture offset (replicate (n - 2064) 0)
 
 -- the calls of the energy cases: channel 0 opened at a count, and one reading, in time
 abbrev pub opening : ℕ → Named
-opening count = record { channel = 0; call = Open (record { unit = 14; gap = 1000; seen = record { tick = 5000; status = count } }) }
+opening count = record { channel = 0; call = Open (openingOf 14 1000 5000 count) }
 
 abbrev pub reading : ℕ → Call
-reading count = Read (record { tick = 6000; status = count })
+reading count = Read (readingOf 6000 count)
 
 -- what the reading answers, and what the total is then
 abbrev pub read : ℕ → ℕ → Answer
@@ -82,8 +85,8 @@ abbrev pub board : Capture
 board = capture 4 (replicate 4080 0 ++ domain)
 
 -- the capture once a field of limit 1 was written: 0 is PWR_LIM, 1 TIME_WINDOW, 2 PWR_LIM_EN
-abbrev pub after : Capture → ℕ → ℕ → Capture
-after c which value = captured (c .config) (c .lo) (lowLeft c 0 0 1 which value) (c .hi) (highLeft c 0 0 1 which value)
+abbrev pub afterWrite : Capture → ℕ → ℕ → Capture
+afterWrite c which value = left c 0 0 1 which value
 
 -- ---- the cases
 
@@ -93,8 +96,8 @@ table =
     row (readOf vsec) (gives (0x0B ∷ 1 ∷ 0 ∷ 0x42 ∷ 1 ∷ 0x10 ∷ 0 ∷ 2 ∷ 2 ∷ 1 ∷ 2048 ∷ []))
     -- RAPL's bank: BAR number, start, bytes of an instance, instances
     ∷ row (featureOf (blank 4 6528) 0) (gives (1 ∷ 6144 ∷ 384 ∷ 1 ∷ []))
-    -- a BAR capture that ends where the bank does is accepted: BAR number, place, bytes and number of the entries
-    ∷ row (discoveryOf (blank 4 6528)) (gives (1 ∷ 2048 ∷ 8 ∷ 2 ∷ []))
+    -- a BAR capture that ends where the bank does is accepted: BAR number, place, entries
+    ∷ row (discoveryOf (blank 4 6528)) (gives (1 ∷ 2048 ∷ 2 ∷ []))
     -- one byte less is not
     ∷ row (discoveryOf (blank 4 6527)) (refused 9)
     -- a bank over the table
@@ -120,9 +123,9 @@ table =
     -- and has no rise
     ∷ row (added 0x10 0x10) (gives (0 ∷ []))
     -- power, window and the enable bit written one after the other, then the register read
-    ∷ row (contentFor (after (after (after board 0 1000) 1 0x6E) 2 1) 0 0 2) (gives (0x4000000001B803E8 ∷ []))
+    ∷ row (contentFor (afterWrite (afterWrite (afterWrite board 0 1000) 1 0x6E) 2 1) 0 0 2) (gives (0x4000000001B803E8 ∷ []))
     -- the widest power is stored
-    ∷ row (contentFor (after board 0 262143) 0 0 2) (gives (262143 ∷ []))
+    ∷ row (contentFor (afterWrite board 0 262143) 0 0 2) (gives (262143 ∷ []))
     -- the next is too wide
     ∷ row (nextFor board 0 0 1 0 262144) (refused 17)
     ∷ []

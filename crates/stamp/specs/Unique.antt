@@ -8,18 +8,19 @@
 -- Assumes nothing.
 use mathlib.Core.Path.{_≡_}
 use denote.Ref.{now}
+use Rattle.words.proofs.answers.number_of.Reads as words-number-of
 use Rattle.words.proofs.bytes.u8_at.Reads as words-u8-at
 use Rattle.words.proofs.bytes.u16_at.Reads as words-u16-at
 use Rattle.words.proofs.bytes.u32_at.Reads as words-u32-at
 use Rattle.words.proofs.bytes.u64_at.Reads as words-u64-at
-use Rattle.captures.proofs.layout.layout_of.Reads as captures-layout-of
-use Rattle.captures.proofs.layout.config_in.Reads as captures-config-in
-use Rattle.captures.proofs.layout.low_in.Reads as captures-low-in
-use Rattle.captures.proofs.layout.high_in.Reads as captures-high-in
-use Rattle.stores.proofs.bytes.store_u8.Reads as stores-store-u8
-use Rattle.stores.proofs.bytes.store_u16.Reads as stores-store-u16
-use Rattle.stores.proofs.bytes.store_u32.Reads as stores-store-u32
-use Rattle.stores.proofs.bytes.store_u64.Reads as stores-store-u64
+use Rattle.list_input.proofs.layout.layout_of.Reads as list-input-layout-of
+use Rattle.list_input.proofs.layout.config_in.Reads as list-input-config-in
+use Rattle.list_input.proofs.layout.low_in.Reads as list-input-low-in
+use Rattle.list_input.proofs.layout.high_in.Reads as list-input-high-in
+use Rattle.stores.proofs.numbers.store_u8.Reads as stores-store-u8
+use Rattle.stores.proofs.numbers.store_u16.Reads as stores-store-u16
+use Rattle.stores.proofs.numbers.store_u32.Reads as stores-store-u32
+use Rattle.stores.proofs.numbers.store_u64.Reads as stores-store-u64
 use Rattle.text.proofs.page.put.Reads as text-put
 use Rattle.text.proofs.page.shown.Reads as text-shown
 use Rattle.text.proofs.numerals.decimal.Reads as text-decimal
@@ -28,70 +29,84 @@ use Rattle.text.proofs.numerals.labelled.Reads as text-labelled
 use Rattle.text.proofs.numerals.labelled_hex.Reads as text-labelled-hex
 use Rattle.fields.proofs.bits.field.Reads as fields-field
 use Rattle.fields.proofs.bits.with_field.Reads as fields-with-field
-use Rattle.places.proofs.found.number_of.Reads as places-number-of
-use Rattle.places.proofs.found.bar_of.Reads as places-bar-of
-use Rattle.places.proofs.found.part_of.Reads as places-part-of
-use Rattle.report.proofs.answers.refusal.Reads as report-refusal
-use Rattle.report.proofs.answers.outcome.Reads as report-outcome
-use Rattle.report.proofs.answers.value.Reads as report-value
-use Rattle.report.proofs.answers.content.Reads as report-content
-use Rattle.report.proofs.answers.place.Reads as report-place
-use Rattle.channel.proofs.record.Channel.take.Reads as channel-take
-use Rattle.channel.proofs.record.closed_channel.Reads as channel-closed-channel
-use Rattle.channel.proofs.record.Channel.share.Reads as channel-share
-use Rattle.vsec.proofs.structure.vsec_at.Reads as vsec-vsec-at
-use Rattle.vsec.proofs.structure.read.Reads as vsec-read
-use Rattle.vsec.proofs.structure.write.Reads as vsec-write
-use Rattle.vsec.proofs.structure.fixed_wrong.Reads as vsec-fixed-wrong
-use Rattle.domains.proofs.headers.read.Reads as domains-read
-use Rattle.domains.proofs.headers.number_of.Reads as domains-number-of
-use Rattle.domains.proofs.headers.domain_in.Reads as domains-domain-in
-use Rattle.entries.proofs.entry.entry_at.Reads as entries-entry-at
-use Rattle.entries.proofs.entry.read.Reads as entries-read
-use Rattle.entries.proofs.entry.write.Reads as entries-write
-use Rattle.units.proofs.register.read.Reads as units-read
-use Rattle.units.proofs.register.write.Reads as units-write
-use Rattle.banks.proofs.faults.bank_in.Reads as banks-bank-in
-use Rattle.banks.proofs.faults.empty.Reads as banks-empty
-use Rattle.banks.proofs.faults.fault.Reads as banks-fault
-use Rattle.banks.proofs.faults.faults.Reads as banks-faults
-use Rattle.energy.proofs.hall.all_closed.Reads as energy-all-closed
-use Rattle.energy.proofs.hall.call_on.Reads as energy-call-on
-use Rattle.energy.proofs.hall.open.Reads as energy-open
-use Rattle.energy.proofs.hall.read.Reads as energy-read
-use Rattle.energy.proofs.hall.resume.Reads as energy-resume
-use Rattle.energy.proofs.hall.close.Reads as energy-close
-use Rattle.energy.proofs.hall.total.Reads as energy-total
-use Rattle.energy.proofs.hall.hall_total.Reads as energy-hall-total
-use Rattle.walk.proofs.capabilities.walk.Reads as walk-walk
-use Rattle.windows.proofs.codes.window_code.Reads as windows-window-code
-use Rattle.windows.proofs.codes.quarters.Reads as windows-quarters
-use Rattle.contents.proofs.registers.present.Reads as contents-present
-use Rattle.contents.proofs.registers.register_in.Reads as contents-register-in
-use Rattle.limits.proofs.limit.read.Reads as limits-read
-use Rattle.limits.proofs.limit.write.Reads as limits-write
-use Rattle.discovery.proofs.table.discover.Reads as discovery-discover
-use Rattle.permits.proofs.refusals.span_of.Reads as permits-span-of
-use Rattle.permits.proofs.refusals.refusal.Reads as permits-refusal
-use Rattle.features.proofs.instances.feature.Reads as features-feature
-use Rattle.features.proofs.instances.instance_place.Reads as features-instance-place
-use Rattle.features.proofs.instances.instance.Reads as features-instance
-use Rattle.features.proofs.instances.instance_number.Reads as features-instance-number
-use Rattle.rapl.proofs.chains.chain_in.Reads as rapl-chain-in
-use Rattle.rapl.proofs.lookups.domain.Reads as rapl-domain
-use Rattle.rapl.proofs.lookups.register.Reads as rapl-register
-use Rattle.rapl.proofs.lookups.chain.Reads as rapl-chain
-use Rattle.counts.proofs.valid.valid_count.Reads as counts-valid-count
-use Rattle.counts.proofs.valid.valid_in.Reads as counts-valid-in
-use Rattle.registers.proofs.lookup.register_place.Reads as registers-register-place
-use Rattle.registers.proofs.lookup.register.Reads as registers-register
-use Rattle.writes.proofs.next.next_in.Reads as writes-next-in
-use Rattle.writes.proofs.next.next.Reads as writes-next
-use Rattle.writes.proofs.write.write.Reads as writes-write
-use Rattle.listing.proofs.lines.listing_of.Reads as listing-listing-of
-use Rattle.listing.proofs.lines.bar_in.Reads as listing-bar-in
-use Rattle.listing.proofs.lines.line_of.Reads as listing-line-of
-use Rattle.output.proofs.whole.list.Reads as output-list
+use Rattle.fields.proofs.tables.word_of.Reads as fields-word-of
+use Rattle.capture.proofs.places.number_of.Reads as capture-number-of
+use Rattle.capture.proofs.places.bar_of.Reads as capture-bar-of
+use Rattle.capture.proofs.places.part_of.Reads as capture-part-of
+use Rattle.report.proofs.endings.refusal.Reads as report-refusal
+use Rattle.report.proofs.endings.outcome.Reads as report-outcome
+use Rattle.report.proofs.endings.value.Reads as report-value
+use Rattle.report.proofs.endings.content.Reads as report-content
+use Rattle.report.proofs.endings.place.Reads as report-place
+use Rattle.energy_calls.proofs.calls.reading_of.Reads as energy-calls-reading-of
+use Rattle.energy_calls.proofs.calls.opening_of.Reads as energy-calls-opening-of
+use Rattle.energy_calls.proofs.calls.number_of.Reads as energy-calls-number-of
+use Rattle.energy_calls.proofs.calls.count_of.Reads as energy-calls-count-of
+use Rattle.energy_channel.proofs.channel.Channel.is_open.Reads as energy-channel-is-open
+use Rattle.energy_channel.proofs.channel.Channel.take.Reads as energy-channel-take
+use Rattle.energy_channel.proofs.channel.closed_channel.Reads as energy-channel-closed-channel
+use Rattle.energy_channel.proofs.channel.Channel.share.Reads as energy-channel-share
+use Rattle.tpmi_structure.proofs.structure.vsec_at.Reads as tpmi-structure-vsec-at
+use Rattle.tpmi_structure.proofs.structure.number_of.Reads as tpmi-structure-number-of
+use Rattle.tpmi_structure.proofs.structure.read.Reads as tpmi-structure-read
+use Rattle.tpmi_structure.proofs.structure.write.Reads as tpmi-structure-write
+use Rattle.tpmi_structure.proofs.structure.fixed_wrong.Reads as tpmi-structure-fixed-wrong
+use Rattle.rapl_domains.proofs.domains.read.Reads as rapl-domains-read
+use Rattle.rapl_domains.proofs.domains.number_of.Reads as rapl-domains-number-of
+use Rattle.rapl_domains.proofs.domains.domain_in.Reads as rapl-domains-domain-in
+use Rattle.tpmi_entries.proofs.entry.entry_at.Reads as tpmi-entries-entry-at
+use Rattle.tpmi_entries.proofs.entry.number_of.Reads as tpmi-entries-number-of
+use Rattle.tpmi_entries.proofs.entry.read.Reads as tpmi-entries-read
+use Rattle.tpmi_entries.proofs.entry.write.Reads as tpmi-entries-write
+use Rattle.rapl_units.proofs.units.read.Reads as rapl-units-read
+use Rattle.rapl_units.proofs.units.write.Reads as rapl-units-write
+use Rattle.tpmi_banks.proofs.faults.bank_in.Reads as tpmi-banks-bank-in
+use Rattle.tpmi_banks.proofs.faults.empty.Reads as tpmi-banks-empty
+use Rattle.tpmi_banks.proofs.faults.fault.Reads as tpmi-banks-fault
+use Rattle.tpmi_banks.proofs.faults.faults.Reads as tpmi-banks-faults
+use Rattle.energy_hall.proofs.hall.all_closed.Reads as energy-hall-all-closed
+use Rattle.energy_hall.proofs.hall.call_on.Reads as energy-hall-call-on
+use Rattle.energy_hall.proofs.hall.open.Reads as energy-hall-open
+use Rattle.energy_hall.proofs.hall.read.Reads as energy-hall-read
+use Rattle.energy_hall.proofs.hall.resume.Reads as energy-hall-resume
+use Rattle.energy_hall.proofs.hall.close.Reads as energy-hall-close
+use Rattle.energy_hall.proofs.hall.total.Reads as energy-hall-total
+use Rattle.energy_hall.proofs.hall.hall_total.Reads as energy-hall-hall-total
+use Rattle.tpmi_walk.proofs.walk.walk.Reads as tpmi-walk-walk
+use Rattle.tpmi_walk.proofs.walk.number_of.Reads as tpmi-walk-number-of
+use Rattle.rapl_windows.proofs.windows.window_code.Reads as rapl-windows-window-code
+use Rattle.rapl_windows.proofs.windows.quarters.Reads as rapl-windows-quarters
+use Rattle.rapl_registers.proofs.contents.present.Reads as rapl-registers-present
+use Rattle.rapl_registers.proofs.contents.register_in.Reads as rapl-registers-register-in
+use Rattle.rapl_limits.proofs.limit.read.Reads as rapl-limits-read
+use Rattle.rapl_limits.proofs.limit.write.Reads as rapl-limits-write
+use Rattle.tpmi_discovery.proofs.table.number_of.Reads as tpmi-discovery-number-of
+use Rattle.tpmi_discovery.proofs.table.locate.Reads as tpmi-discovery-locate
+use Rattle.tpmi_discovery.proofs.discovery.discover.Reads as tpmi-discovery-discover
+use Rattle.rapl_permits.proofs.permits.span_of.Reads as rapl-permits-span-of
+use Rattle.rapl_permits.proofs.permits.refusal.Reads as rapl-permits-refusal
+use Rattle.tpmi_features.proofs.instances.feature.Reads as tpmi-features-feature
+use Rattle.tpmi_features.proofs.instances.instance_place.Reads as tpmi-features-instance-place
+use Rattle.tpmi_features.proofs.instances.instance.Reads as tpmi-features-instance
+use Rattle.tpmi_features.proofs.instances.instance_number.Reads as tpmi-features-instance-number
+use Rattle.tpmi_features.proofs.entries.entry.Reads as tpmi-features-entry
+use Rattle.rapl_chains.proofs.chains.chain_in.Reads as rapl-chains-chain-in
+use Rattle.rapl_lookups.proofs.lookups.domain.Reads as rapl-lookups-domain
+use Rattle.rapl_lookups.proofs.lookups.register.Reads as rapl-lookups-register
+use Rattle.rapl_lookups.proofs.lookups.chain.Reads as rapl-lookups-chain
+use Rattle.tpmi_counts.proofs.valid.valid_count.Reads as tpmi-counts-valid-count
+use Rattle.tpmi_counts.proofs.valid.valid_in.Reads as tpmi-counts-valid-in
+use Rattle.tpmi_registers.proofs.registers.register_place.Reads as tpmi-registers-register-place
+use Rattle.tpmi_registers.proofs.registers.register.Reads as tpmi-registers-register
+use Rattle.tpmi_store.proofs.store.store.Reads as tpmi-store-store
+use Rattle.rapl_writes.proofs.next.next_in.Reads as rapl-writes-next-in
+use Rattle.rapl_writes.proofs.next.next.Reads as rapl-writes-next
+use Rattle.rapl_writes.proofs.write.write.Reads as rapl-writes-write
+use Rattle.list_lines.proofs.listing.number_of.Reads as list-lines-number-of
+use Rattle.list_lines.proofs.listing.listing_of.Reads as list-lines-listing-of
+use Rattle.list_lines.proofs.listing.bar_in.Reads as list-lines-bar-in
+use Rattle.list_lines.proofs.line.line_of.Reads as list-lines-line-of
+use Rattle.list_output.proofs.output.list.Reads as list-output-list
 
 abbrev pub Fixes : {L : Type 0} {A R E B : L → Type 0} → ((κs : L) → R κs → E κs → B κs) → ((κs : L) → A κs → R κs → E κs → Type 0) → Type 0
 Fixes {L} {A} {R} {E} out P = (κs : L) (a : A κs) (x y : R κs) (s t : E κs) → P κs a x s → P κs a y t → out κs x s ≡ out κs y t
@@ -100,16 +115,17 @@ abbrev pub Only : {L : Type 0} {A R E : L → Type 0} → ((κs : L) → A κs �
 Only {L} {A} {R} {E} P = Fixes (λ κs x s. x) P
 
 pub record WordsUnique : Type 0 where
+  pub number-of : Only words-number-of.Post
   pub u8-at : Only words-u8-at.Post
   pub u16-at : Only words-u16-at.Post
   pub u32-at : Only words-u32-at.Post
   pub u64-at : Only words-u64-at.Post
 
-pub record CapturesUnique : Type 0 where
-  pub layout-of : Only captures-layout-of.Post
-  pub config-in : Fixes (λ κs x s. now x) captures-config-in.Post
-  pub low-in : Fixes (λ κs x s. now x) captures-low-in.Post
-  pub high-in : Fixes (λ κs x s. now x) captures-high-in.Post
+pub record ListInputUnique : Type 0 where
+  pub layout-of : Only list-input-layout-of.Post
+  pub config-in : Fixes (λ κs x s. now x) list-input-config-in.Post
+  pub low-in : Fixes (λ κs x s. now x) list-input-low-in.Post
+  pub high-in : Fixes (λ κs x s. now x) list-input-high-in.Post
 
 pub record StoresUnique : Type 0 where
   pub store-u8 : Fixes (λ κs x s. now (s .0)) stores-store-u8.Post
@@ -133,11 +149,12 @@ pub record TextUnique : Type 0 where
 pub record FieldsUnique : Type 0 where
   pub field : Only fields-field.Post
   pub with-field : Only fields-with-field.Post
+  pub word-of : Only fields-word-of.Post
 
-pub record PlacesUnique : Type 0 where
-  pub number-of : Only places-number-of.Post
-  pub bar-of : Fixes (λ κs x s. now x) places-bar-of.Post
-  pub part-of : Fixes (λ κs x s. now x) places-part-of.Post
+pub record CaptureUnique : Type 0 where
+  pub number-of : Only capture-number-of.Post
+  pub bar-of : Fixes (λ κs x s. now x) capture-bar-of.Post
+  pub part-of : Fixes (λ κs x s. now x) capture-part-of.Post
 
 pub record ReportUnique : Type 0 where
   pub refusal : Only report-refusal.Post
@@ -151,103 +168,123 @@ pub record ReportUnique : Type 0 where
   pub place : Only report-place.Post
   pub place-kept : Fixes (λ κs x s. now (s .0)) report-place.Post
 
-pub record ChannelUnique : Type 0 where
-  pub take : Only channel-take.Post
-  pub closed-channel : Only channel-closed-channel.Post
-  pub share : Only channel-share.Post
+pub record EnergyCallsUnique : Type 0 where
+  pub count-of : Only energy-calls-count-of.Post
+  pub reading-of : Only energy-calls-reading-of.Post
+  pub opening-of : Only energy-calls-opening-of.Post
+  pub number-of : Only energy-calls-number-of.Post
 
-pub record VsecUnique : Type 0 where
-  pub vsec-at : Only vsec-vsec-at.Post
-  pub read-call : Only vsec-read.Post
-  pub write-call : Only vsec-write.Post
-  pub write-call-kept : Fixes (λ κs x s. now (s .0)) vsec-write.Post
-  pub fixed-wrong : Only vsec-fixed-wrong.Post
+pub record EnergyChannelUnique : Type 0 where
+  pub is-open : Only energy-channel-is-open.Post
+  pub take : Only energy-channel-take.Post
+  pub closed-channel : Only energy-channel-closed-channel.Post
+  pub share : Only energy-channel-share.Post
 
-pub record DomainsUnique : Type 0 where
-  pub read-call : Only domains-read.Post
-  pub number-of : Only domains-number-of.Post
-  pub domain-in : Only domains-domain-in.Post
+pub record TpmiStructureUnique : Type 0 where
+  pub number-of : Only tpmi-structure-number-of.Post
+  pub vsec-at : Only tpmi-structure-vsec-at.Post
+  pub read-call : Only tpmi-structure-read.Post
+  pub write-call : Only tpmi-structure-write.Post
+  pub write-call-kept : Fixes (λ κs x s. now (s .0)) tpmi-structure-write.Post
+  pub fixed-wrong : Only tpmi-structure-fixed-wrong.Post
 
-pub record EntriesUnique : Type 0 where
-  pub entry-at : Only entries-entry-at.Post
-  pub read-call : Only entries-read.Post
-  pub write-call : Only entries-write.Post
-  pub write-call-kept : Fixes (λ κs x s. now (s .0)) entries-write.Post
+pub record RaplDomainsUnique : Type 0 where
+  pub read-call : Only rapl-domains-read.Post
+  pub number-of : Only rapl-domains-number-of.Post
+  pub domain-in : Only rapl-domains-domain-in.Post
 
-pub record UnitsUnique : Type 0 where
-  pub read-call : Only units-read.Post
-  pub write-call : Only units-write.Post
+pub record TpmiEntriesUnique : Type 0 where
+  pub number-of : Only tpmi-entries-number-of.Post
+  pub entry-at : Only tpmi-entries-entry-at.Post
+  pub read-call : Only tpmi-entries-read.Post
+  pub write-call : Only tpmi-entries-write.Post
+  pub write-call-kept : Fixes (λ κs x s. now (s .0)) tpmi-entries-write.Post
 
-pub record BanksUnique : Type 0 where
-  pub bank-in : Only banks-bank-in.Post
-  pub empty : Only banks-empty.Post
-  pub fault : Only banks-fault.Post
-  pub faults : Only banks-faults.Post
+pub record RaplUnitsUnique : Type 0 where
+  pub read-call : Only rapl-units-read.Post
+  pub write-call : Only rapl-units-write.Post
 
-pub record EnergyUnique : Type 0 where
-  pub all-closed : Only energy-all-closed.Post
-  pub call-on : Only energy-call-on.Post
-  pub open-call : Only energy-open.Post
-  pub read-call : Only energy-read.Post
-  pub resume : Only energy-resume.Post
-  pub close-call : Only energy-close.Post
-  pub total : Only energy-total.Post
-  pub hall-total : Only energy-hall-total.Post
+pub record TpmiBanksUnique : Type 0 where
+  pub bank-in : Only tpmi-banks-bank-in.Post
+  pub empty : Only tpmi-banks-empty.Post
+  pub fault : Only tpmi-banks-fault.Post
+  pub faults : Only tpmi-banks-faults.Post
 
-pub record WalkUnique : Type 0 where
-  pub walk : Only walk-walk.Post
+pub record EnergyHallUnique : Type 0 where
+  pub all-closed : Only energy-hall-all-closed.Post
+  pub call-on : Only energy-hall-call-on.Post
+  pub open-call : Only energy-hall-open.Post
+  pub read-call : Only energy-hall-read.Post
+  pub resume : Only energy-hall-resume.Post
+  pub close-call : Only energy-hall-close.Post
+  pub total : Only energy-hall-total.Post
+  pub hall-total : Only energy-hall-hall-total.Post
 
-pub record WindowsUnique : Type 0 where
-  pub window-code : Only windows-window-code.Post
-  pub quarters : Only windows-quarters.Post
+pub record TpmiWalkUnique : Type 0 where
+  pub number-of : Only tpmi-walk-number-of.Post
+  pub walk : Only tpmi-walk-walk.Post
 
-pub record ContentsUnique : Type 0 where
-  pub present : Only contents-present.Post
-  pub register-in : Only contents-register-in.Post
+pub record RaplWindowsUnique : Type 0 where
+  pub window-code : Only rapl-windows-window-code.Post
+  pub quarters : Only rapl-windows-quarters.Post
 
-pub record LimitsUnique : Type 0 where
-  pub read-call : Only limits-read.Post
-  pub write-call : Only limits-write.Post
+pub record RaplRegistersUnique : Type 0 where
+  pub present : Only rapl-registers-present.Post
+  pub register-in : Only rapl-registers-register-in.Post
 
-pub record DiscoveryUnique : Type 0 where
-  pub discover : Only discovery-discover.Post
+pub record RaplLimitsUnique : Type 0 where
+  pub read-call : Only rapl-limits-read.Post
+  pub write-call : Only rapl-limits-write.Post
 
-pub record PermitsUnique : Type 0 where
-  pub span-of : Only permits-span-of.Post
-  pub refusal : Only permits-refusal.Post
+pub record TpmiDiscoveryUnique : Type 0 where
+  pub number-of : Only tpmi-discovery-number-of.Post
+  pub locate : Only tpmi-discovery-locate.Post
+  pub discover : Only tpmi-discovery-discover.Post
 
-pub record FeaturesUnique : Type 0 where
-  pub feature : Only features-feature.Post
-  pub instance-place : Only features-instance-place.Post
-  pub instance : Fixes (λ κs x s. now x) features-instance.Post
-  pub instance-number : Only features-instance-number.Post
+pub record RaplPermitsUnique : Type 0 where
+  pub span-of : Only rapl-permits-span-of.Post
+  pub refusal : Only rapl-permits-refusal.Post
 
-pub record RaplUnique : Type 0 where
-  pub chain-in : Only rapl-chain-in.Post
-  pub domain : Only rapl-domain.Post
-  pub register : Only rapl-register.Post
-  pub chain : Only rapl-chain.Post
+pub record TpmiFeaturesUnique : Type 0 where
+  pub entry : Only tpmi-features-entry.Post
+  pub feature : Only tpmi-features-feature.Post
+  pub instance-place : Only tpmi-features-instance-place.Post
+  pub instance : Fixes (λ κs x s. now x) tpmi-features-instance.Post
+  pub instance-number : Only tpmi-features-instance-number.Post
 
-pub record CountsUnique : Type 0 where
-  pub valid-count : Only counts-valid-count.Post
-  pub valid-in : Only counts-valid-in.Post
+pub record RaplChainsUnique : Type 0 where
+  pub chain-in : Only rapl-chains-chain-in.Post
 
-pub record RegistersUnique : Type 0 where
-  pub register-place : Only registers-register-place.Post
-  pub register : Only registers-register.Post
+pub record RaplLookupsUnique : Type 0 where
+  pub domain : Only rapl-lookups-domain.Post
+  pub register : Only rapl-lookups-register.Post
+  pub chain : Only rapl-lookups-chain.Post
 
-pub record WritesUnique : Type 0 where
-  pub next-in : Only writes-next-in.Post
-  pub next : Only writes-next.Post
-  pub write-call : Only writes-write.Post
-  pub write-call-low : Fixes (λ κs x s. now (s .1 .1 .0)) writes-write.Post
-  pub write-call-high : Fixes (λ κs x s. now (s .1 .1 .1 .1 .0)) writes-write.Post
+pub record TpmiCountsUnique : Type 0 where
+  pub valid-count : Only tpmi-counts-valid-count.Post
+  pub valid-in : Only tpmi-counts-valid-in.Post
 
-pub record ListingUnique : Type 0 where
-  pub listing-of : Only listing-listing-of.Post
-  pub bar-in : Fixes (λ κs x s. now x) listing-bar-in.Post
-  pub line-of : Only listing-line-of.Post
+pub record TpmiRegistersUnique : Type 0 where
+  pub register-place : Only tpmi-registers-register-place.Post
+  pub register : Only tpmi-registers-register.Post
 
-pub record OutputUnique : Type 0 where
-  pub list : Only output-list.Post
-  pub list-kept : Fixes (λ κs x s. now (s .1 .0)) output-list.Post
+pub record TpmiStoreUnique : Type 0 where
+  pub store-low : Fixes (λ κs x s. now (s .1 .1 .1 .1 .0)) tpmi-store-store.Post
+  pub store-high : Fixes (λ κs x s. now (s .1 .1 .1 .1 .1 .1 .0)) tpmi-store-store.Post
+
+pub record RaplWritesUnique : Type 0 where
+  pub next-in : Only rapl-writes-next-in.Post
+  pub next : Only rapl-writes-next.Post
+  pub write-call : Only rapl-writes-write.Post
+  pub write-call-low : Fixes (λ κs x s. now (s .1 .1 .0)) rapl-writes-write.Post
+  pub write-call-high : Fixes (λ κs x s. now (s .1 .1 .1 .1 .0)) rapl-writes-write.Post
+
+pub record ListLinesUnique : Type 0 where
+  pub number-of : Only list-lines-number-of.Post
+  pub listing-of : Only list-lines-listing-of.Post
+  pub bar-in : Fixes (λ κs x s. now x) list-lines-bar-in.Post
+  pub line-of : Only list-lines-line-of.Post
+
+pub record ListOutputUnique : Type 0 where
+  pub list : Only list-output-list.Post
+  pub list-kept : Fixes (λ κs x s. now (s .1 .0)) list-output-list.Post

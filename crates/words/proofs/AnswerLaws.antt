@@ -43,6 +43,11 @@ unless-stops n xs a {m} e = let u = unless-refused n xs e in ap (λ (k : ℕ). u
 pub unless-passes : {n : ℕ} (a : Answer) → n ≡ 0 → unless n a ≡ a
 unless-passes a e = ap (λ (k : ℕ). unless k a) e
 
+-- two answers behind one number are the same where they are the same once it is 0
+pub unless-where : (n : ℕ) {a b : Answer} → (n ≡ 0 → a ≡ b) → unless n a ≡ unless n b
+unless-where zero e = e refl
+unless-where (suc n) e = refl
+
 -- what has a way back tells two things apart: why two answers that say the same are the same
 pub once : {A B : Type 0} (f : A → B) (g : B → A) → ((a : A) → g (f a) ≡ a) → (a b : A) → f a ≡ f b → a ≡ b
 once f g back a b e = sym (back a) ∙ ap g e ∙ back b

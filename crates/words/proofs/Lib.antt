@@ -1,7 +1,9 @@
 pub mod TestLaws
 pub mod NumberLaws
 pub mod StoreLaws
+pub mod PartStores
 pub mod AnswerLaws
 pub mod BelowLaws
+pub mod Told
 pub mod Theorems
 pub mod Cases

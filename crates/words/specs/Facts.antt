@@ -37,6 +37,13 @@ abbrev pub StoredTwoFact : List ℕ → ℕ → ℕ → ℕ → ℕ → ℕ → 
 StoredTwoFact xs at m n a b = a < 256 ^ m → at + (m + n) ≤ length xs
     → stored (stored xs at m a) (at + m) n b ≡ stored xs at (m + n) (b * 256 ^ m + a)
 
+-- ---- what an enum says
+
+-- A function that tells two things apart: what it says of both is the same only if they are. (Of what an enum of the code says: `ToldOnce` of
+-- its crate, beside `told`; proofs/Told.)
+abbrev pub Once : {A B : Type 0} → (A → B) → Type 0
+Once {A} {B} f = (a b : A) → f a ≡ f b → a ≡ b
+
 -- ---- which test decides
 
 -- every test of a list fails

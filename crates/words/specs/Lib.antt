@@ -1,4 +1,5 @@
 pub mod Bytes
 pub mod Answers
 pub mod Below
+pub mod Told
 pub mod Facts

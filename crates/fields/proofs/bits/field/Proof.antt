@@ -1,5 +1,5 @@
 -- `fields::bits::field` meets its contract. Assumes nothing.
-use Rattle.fields.specs.Fields.{field}
+use Rattle.fields.specs.Bits.{field}
 use borrow.Author.Needs.{needs}
 use Rattle.fields.proofs.bits.field.Statement.{statement}
 use Rattle.fields.proofs.bits.field.Tie as tie

@@ -3,7 +3,7 @@ use mathlib.Core.Path.{_≡_, ap, _∙_}
 use Prim.Native.Nat.{ℕ, _+_, _-_, _*_, _%_, _^_}
 use native.Mathlib.Omega.{arith}
 use borrow.Author.Tests.{le-leb, lt-leb}
-use Rattle.fields.specs.Fields.{field, withField}
+use Rattle.fields.specs.Bits.{field, withField}
 use Rattle.fields.proofs.FieldLaws.{part-le, with-moved, with-lt, old-whole, new-whole}
 use borrow.Author.Needs.{needs}
 use Rattle.fields.proofs.bits.with_field.Statement.{statement}

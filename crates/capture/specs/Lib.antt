@@ -1,0 +1,3 @@
+pub mod Told
+pub mod Capture
+pub mod Places

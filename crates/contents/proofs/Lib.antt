@@ -1,3 +1,0 @@
-pub mod RegisterLaws
-pub mod RegisterFact
-pub mod Cases

@@ -1,2 +1,0 @@
-pub mod DiscoveryLaws
-pub mod DiscoveryFact

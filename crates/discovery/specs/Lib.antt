@@ -1,2 +1,0 @@
-pub mod Discovery
-pub mod Facts

@@ -1,4 +1,0 @@
-pub mod DomainLaws
-pub mod DomainFact
-pub mod Told
-pub mod Cases

@@ -1,2 +1,0 @@
-// RAPL domains in the bytes of an instance: headers and their lookup (`headers`). No call asks anything of its caller.
-pub mod headers;

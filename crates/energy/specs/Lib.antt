@@ -1,5 +1,0 @@
-pub mod Hall
-pub mod Account
-pub mod Facts
-pub mod Night
-pub mod Dummies

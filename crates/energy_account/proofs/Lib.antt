@@ -1,0 +1,4 @@
+pub mod Demand3
+pub mod Night
+pub mod FirstRise
+pub mod Dummies

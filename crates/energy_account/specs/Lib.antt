@@ -1,0 +1,4 @@
+pub mod Account
+pub mod Facts
+pub mod Night
+pub mod Dummies

@@ -1,0 +1,2 @@
+// What a call on an energy channel carries, and what it answers (document 01, "Energy channels"). No call asks anything of its caller.
+pub mod calls;

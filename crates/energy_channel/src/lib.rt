@@ -1,0 +1,2 @@
+// One energy channel (document 01): its record, and what each call does to it (`channel`). No call asks anything of its caller.
+pub mod channel;

@@ -1,0 +1,2 @@
+pub mod Hall
+pub mod Facts

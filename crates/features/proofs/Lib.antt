@@ -1,4 +1,0 @@
-pub mod PlaceLaws
-pub mod InsideLaws
-pub mod LookupFact
-pub mod Changed

@@ -1,2 +1,0 @@
-// The whole listing of an input as text, on a lent page (`whole`). No call asks anything of its caller.
-pub mod whole;

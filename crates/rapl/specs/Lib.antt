@@ -1,3 +1,0 @@
-pub mod Chains
-pub mod Lookups
-pub mod Facts

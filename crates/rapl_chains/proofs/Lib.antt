@@ -1,0 +1,4 @@
+pub mod ChainLaws
+pub mod ShortChains
+pub mod ChainFact
+pub mod Cases

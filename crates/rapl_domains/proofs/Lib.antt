@@ -1,0 +1,5 @@
+pub mod DomainLaws
+pub mod SameHeaders
+pub mod DomainFact
+pub mod Told
+pub mod Cases

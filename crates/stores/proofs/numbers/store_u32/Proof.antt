@@ -1,0 +1,16 @@
+-- `stores::numbers::store_u32` meets its contract: what `store` ensures of 4 bytes. Assumes nothing.
+use borrow.Author.Needs.{needs}
+use Rattle.stores.proofs.numbers.store_u32.Statement.{statement}
+use Rattle.stores.proofs.numbers.store_u32.Tie as tie
+
+store-requires : tie.Need-store-requires
+store-requires c κs = search needs
+
+same-length : tie.Need-same-length
+same-length c = search needs
+
+returns : tie.Need-returns
+returns c = c .before .before .store .ensures
+
+pub store-u32-spec : {M : Type 1} → statement M
+store-u32-spec = tie.close (tie.spec store-requires same-length returns)

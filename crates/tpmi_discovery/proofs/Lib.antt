@@ -1,0 +1,5 @@
+pub mod Told
+pub mod TableLaws
+pub mod DiscoveryLaws
+pub mod LocationFact
+pub mod DiscoveryFact

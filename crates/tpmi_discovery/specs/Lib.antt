@@ -1,0 +1,4 @@
+pub mod Told
+pub mod Table
+pub mod Discovery
+pub mod Facts

@@ -1,0 +1,4 @@
+pub mod StoreLaws
+pub mod StoreLeaves
+pub mod AsBefore
+pub mod Stores

@@ -1,0 +1,4 @@
+pub mod Walk
+pub mod Facts
+pub mod Told
+pub mod Step

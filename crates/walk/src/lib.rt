@@ -1,3 +1,0 @@
-// The walk of extended configuration space (`capabilities`): header by header to the first TPMI structure. No call asks anything of its
-// caller.
-pub mod capabilities;

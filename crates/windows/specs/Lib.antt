@@ -1,3 +1,0 @@
-pub mod Windows
-pub mod Told
-pub mod Facts
