@@ -19,22 +19,12 @@ use Rattle.tpmi_banks.specs.Faults.{bankOf, bankIn, emptyBank}
 use Rattle.tpmi_banks.proofs.FaultLaws.{Bounded, bank-bounded}
 use Rattle.tpmi_counts.specs.Valid.{validIn, validCountIn}
 use Rattle.text.specs.Page.{over, joined}
-use Rattle.text.proofs.PageLaws.{length-over, PutAll, runs-fact, Stands, stands-none, stands-next}
-use Rattle.text.specs.Numerals.{numeralOf}
-use Rattle.text.proofs.NumeralFact.{numeral-facts}
+use Rattle.text.proofs.PageLaws.{PutAll}
+use Rattle.text.proofs.LinesLaws.{all-put, few, Listed, listed-none, listed-next}
 use Rattle.list_lines.specs.Listing.{Said, listingOf}
 use Rattle.list_lines.specs.Line.{lineOf}
 use Rattle.list_output.specs.Output.{lineRuns, lineText, linesBelow, refusedText, saidText, textOf, longest, listNumber, listOf, pageLeft}
 use Rattle.list_lines.proofs.LineLaws.{line-none, line-there}
-
--- what a call puts at a place that is known to have room
-abbrev PutAt : List ℕ → ℕ → List ℕ → ℕ → List ℕ → Type 0
-PutAt xs at ys r rs = (r ≡ at + length ys) × (rs ≡ over xs at ys)
-
--- runs of words where there is room for all
-pub all-put : (xs : List ℕ) (at : ℕ) (yss : List (List ℕ)) {r : ℕ} {rs : List ℕ} → at + length (joined yss) ≤ length xs
-    → PutAll xs at r rs yss → PutAt xs at (joined yss) r rs
-all-put xs at yss h q = let f = runs-fact xs at yss in (q .0 ∙ f .place h, q .1 ∙ f .words h)
 
 -- ---- how long a line can be
 
@@ -45,9 +35,6 @@ id-small s t k = field-lt 0 8 (numberAt s (t + k * 8) 8)
 valid-most : (s : List ℕ) (start size n : ℕ) → validCountIn s start size n ≤ n
 unfolding validCountIn
 valid-most s start size n = many-le (validIn s start size) n
-
-few : (n k : ℕ) → 1 ≤ k → n < 10 ^ k → n < 2 ^ 64 → length (numeralOf 10 n) ≤ k
-few n k h l w = numeral-facts 10 n (omega arith) (omega arith) w .at-most k h l
 
 numbers-short : (id i v z s : ℕ) → id < 256 → i < 256 → v < 256 → z < 262144 → s < 2 ^ 33 → length (lineText (id ∷ i ∷ v ∷ z ∷ s ∷ [])) ≤ 62
 unfolding lineRuns
@@ -84,30 +71,20 @@ pub lines-next : (s : List ℕ) (t k : ℕ) → linesBelow s t (k + 1) ≡ lines
 unfolding linesBelow
 lines-next s t k = ap (linesBelow s t) (add-one k)
 
--- the lines of the entries below k stand on the page xs, which has room for 255: the page is ps now, and `at` is the place after them
-pub record Listed (xs s : List ℕ) (t k : ℕ) (ps : List ℕ) (at : ℕ) : Type 0 where
-  pub stands : Stands xs 0 (linesBelow s t k) ps at
-  pub short : at ≤ k * 62
+-- the lines of the entries below k stand on the page xs: the page is ps now, and `at` is the place after them
+abbrev pub Shown : List ℕ → List ℕ → ℕ → ℕ → List ℕ → ℕ → Type 0
+Shown xs s t k ps at = Listed xs 62 k (linesBelow s t k) ps at
 
-module _ (xs s : List ℕ) (t : ℕ) (small : t < 2 ^ 32) (room : longest ≤ length xs) where
-  pub listed-none : Listed xs s t 0 xs 0
+module _ (xs s : List ℕ) (t : ℕ) where
+  pub shown-none : Shown xs s t 0 xs 0
   unfolding linesBelow
-  listed-none = record { stands = stands-none xs 0 (omega arith); short = omega arith }
+  shown-none = listed-none xs 62
 
-  module _ (k : ℕ) (more : k < 255) {ps : List ℕ} {at : ℕ} (so : Listed xs s t k ps at) where
-    listed-room : at + length (lineText (lineOf s t k)) ≤ length ps
-    listed-room = omega (arith, so .short, line-short s t k small, ap length (so .stands .page) ∙ length-over xs 0 (linesBelow s t k))
-
-    next-room : 0 + length (linesBelow s t k ++ lineText (lineOf s t k)) ≤ length xs
-    next-room = omega (arith, so .stands .place, so .short, line-short s t k small, length-append (linesBelow s t k) (lineText (lineOf s t k)))
-
-    pub listed-next : {r : ℕ} {rs : List ℕ} → PutAll ps at r rs (lineRuns (lineOf s t k)) → Listed xs s t (k + 1) rs r
-    listed-next {r} {rs} calls =
-        let q : PutAt ps at (lineText (lineOf s t k)) r rs = all-put ps at (lineRuns (lineOf s t k)) listed-room calls in
-        record {
-          stands = subst (λ (ys : List ℕ). Stands xs 0 ys rs r) (sym (lines-next s t k)) (stands-next xs 0 (so .stands) (lineText (lineOf s t k)) next-room q);
-          short = omega (arith, q .0, so .short, line-short s t k small);
-        }
+  pub shown-next : t < 2 ^ 32 → longest ≤ length xs → (k : ℕ) → k < 255 → {ps : List ℕ} {at : ℕ} → Shown xs s t k ps at → {r : ℕ} {rs : List ℕ}
+      → PutAll ps at r rs (lineRuns (lineOf s t k)) → Shown xs s t (k + 1) rs r
+  shown-next small room k more so {r} {rs} calls =
+      subst (λ (ys : List ℕ). Listed xs 62 (k + 1) ys rs r) (sym (lines-next s t k))
+      (listed-next xs 62 255 k room more so (lineRuns (lineOf s t k)) (line-short s t k small) calls)
 
 -- a text put at the page's start
 pub text-put : (xs : List ℕ) (yss : List (List ℕ)) {r : ℕ} {rs : List ℕ} → length (joined yss) ≤ length xs

@@ -13,7 +13,9 @@ use Rattle.rapl_domains.proofs.Told as domains
 use Rattle.energy_calls.proofs.Theorems as calls
 use Rattle.energy_channel.proofs.Theorems as channel
 use Rattle.energy_hall.proofs.Theorems as energy
-use Rattle.stamp.specs.Unique.{WordsUnique, ListInputUnique, StoresUnique, TextUnique, FieldsUnique, CaptureUnique, ReportUnique, EnergyCallsUnique, EnergyChannelUnique, TpmiStructureUnique, RaplDomainsUnique, TpmiEntriesUnique, RaplUnitsUnique, TpmiBanksUnique, EnergyHallUnique, TpmiWalkUnique, RaplWindowsUnique, RaplRegistersUnique, RaplLimitsUnique, TpmiDiscoveryUnique, RaplPermitsUnique, TpmiFeaturesUnique, RaplChainsUnique, RaplLookupsUnique, TpmiCountsUnique, TpmiRegistersUnique, TpmiStoreUnique, RaplWritesUnique, ListLinesUnique, ListOutputUnique}
+use Rattle.replay_trace.proofs.Theorems as trace
+use Rattle.replay_steps.proofs.Told as steps
+use Rattle.stamp.specs.Unique.{WordsUnique, ListInputUnique, StoresUnique, TextUnique, FieldsUnique, CaptureUnique, ReportUnique, EnergyCallsUnique, EnergyChannelUnique, TpmiStructureUnique, RaplDomainsUnique, TpmiEntriesUnique, RaplUnitsUnique, TpmiBanksUnique, EnergyHallUnique, TpmiWalkUnique, RaplWindowsUnique, RaplRegistersUnique, RaplLimitsUnique, TpmiDiscoveryUnique, RaplPermitsUnique, TpmiFeaturesUnique, RaplChainsUnique, RaplLookupsUnique, TpmiCountsUnique, TpmiRegistersUnique, TpmiStoreUnique, RaplWritesUnique, ListLinesUnique, ListOutputUnique, RecordsUnique, RecordsBodyUnique, ReplayTraceUnique, ReplayStepsUnique, ReplayLinesUnique}
 
 pub words-unique : WordsUnique
 words-unique =
@@ -278,4 +280,48 @@ list-output-unique =
     record {
       list = λ κs a x y s t p q. words.told-once x y (p .0 ∙ sym (q .0));
       list-kept = λ κs a x y s t p q. p .1 ∙ sym (q .1);
+    }
+
+pub records-unique : RecordsUnique
+records-unique =
+    record {
+      begin = λ κs a x y s t p q. p ∙ sym q;
+      length-of = λ κs a x y s t p q. p ∙ sym q;
+      is-stopped = λ κs a x y s t p q. p ∙ sym q;
+      ended = λ κs a x y s t p q. p ∙ sym q;
+      gather = λ κs a x y s t p q. p ∙ sym q;
+    }
+
+pub records-body-unique : RecordsBodyUnique
+records-body-unique =
+    record {
+      numbers = λ κs a x y s t p q. p ∙ sym q;
+      put-numbers = λ κs a x y s t p q. p ∙ sym q;
+    }
+
+pub replay-trace-unique : ReplayTraceUnique
+replay-trace-unique =
+    record {
+      call-of = λ κs a x y s t p q. trace.told-once x y (p ∙ sym q);
+      write-record = λ κs a x y s t p q. words.told-once x y (p .0 ∙ sym (q .0));
+      write-record-kept = λ κs a x y s t p q. p .1 ∙ sym (q .1);
+    }
+
+pub replay-steps-unique : ReplayStepsUnique
+replay-steps-unique =
+    record {
+      start = λ κs a x y s t p q. steps.reader-once x y (p ∙ sym q);
+      step = λ κs a x y s t p q. steps.told-once x y (p ∙ sym q);
+      ended = λ κs a x y s t p q. steps.told-once x y (p ∙ sym q);
+    }
+
+pub replay-lines-unique : ReplayLinesUnique
+replay-lines-unique =
+    record {
+      record-line = λ κs a x y s t p q. p .0 ∙ sym (q .0);
+      record-line-kept = λ κs a x y s t p q. p .1 ∙ sym (q .1);
+      stop-line = λ κs a x y s t p q. p .0 ∙ sym (q .0);
+      stop-line-kept = λ κs a x y s t p q. p .1 ∙ sym (q .1);
+      open-lines = λ κs a x y s t p q. words.told-once x y (p .0 ∙ sym (q .0));
+      open-lines-kept = λ κs a x y s t p q. p .1 ∙ sym (q .1);
     }

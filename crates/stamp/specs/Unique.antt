@@ -107,6 +107,21 @@ use Rattle.list_lines.proofs.listing.listing_of.Reads as list-lines-listing-of
 use Rattle.list_lines.proofs.listing.bar_in.Reads as list-lines-bar-in
 use Rattle.list_lines.proofs.line.line_of.Reads as list-lines-line-of
 use Rattle.list_output.proofs.output.list.Reads as list-output-list
+use Rattle.records.proofs.partial.begin.Reads as records-begin
+use Rattle.records.proofs.partial.length_of.Reads as records-length-of
+use Rattle.records.proofs.partial.Partial.is_stopped.Reads as records-is-stopped
+use Rattle.records.proofs.partial.Partial.ended.Reads as records-ended
+use Rattle.records.proofs.partial.gather.Reads as records-gather
+use Rattle.records_body.proofs.body.numbers.Reads as records-body-numbers
+use Rattle.records_body.proofs.body.put_numbers.Reads as records-body-put-numbers
+use Rattle.replay_trace.proofs.trace.call_of.Reads as replay-trace-call-of
+use Rattle.replay_trace.proofs.trace.write_record.Reads as replay-trace-write-record
+use Rattle.replay_steps.proofs.steps.start.Reads as replay-steps-start
+use Rattle.replay_steps.proofs.steps.step.Reads as replay-steps-step
+use Rattle.replay_steps.proofs.steps.ended.Reads as replay-steps-ended
+use Rattle.replay_lines.proofs.spoken.record_line.Reads as replay-lines-record-line
+use Rattle.replay_lines.proofs.spoken.stop_line.Reads as replay-lines-stop-line
+use Rattle.replay_lines.proofs.spoken.open_lines.Reads as replay-lines-open-lines
 
 abbrev pub Fixes : {L : Type 0} {A R E B : L → Type 0} → ((κs : L) → R κs → E κs → B κs) → ((κs : L) → A κs → R κs → E κs → Type 0) → Type 0
 Fixes {L} {A} {R} {E} out P = (κs : L) (a : A κs) (x y : R κs) (s t : E κs) → P κs a x s → P κs a y t → out κs x s ≡ out κs y t
@@ -288,3 +303,32 @@ pub record ListLinesUnique : Type 0 where
 pub record ListOutputUnique : Type 0 where
   pub list : Only list-output-list.Post
   pub list-kept : Fixes (λ κs x s. now (s .1 .0)) list-output-list.Post
+
+pub record RecordsUnique : Type 0 where
+  pub begin : Only records-begin.Post
+  pub length-of : Only records-length-of.Post
+  pub is-stopped : Only records-is-stopped.Post
+  pub ended : Only records-ended.Post
+  pub gather : Only records-gather.Post
+
+pub record RecordsBodyUnique : Type 0 where
+  pub numbers : Only records-body-numbers.Post
+  pub put-numbers : Fixes (λ κs x s. now (s .0)) records-body-put-numbers.Post
+
+pub record ReplayTraceUnique : Type 0 where
+  pub call-of : Only replay-trace-call-of.Post
+  pub write-record : Only replay-trace-write-record.Post
+  pub write-record-kept : Fixes (λ κs x s. now (s .0)) replay-trace-write-record.Post
+
+pub record ReplayStepsUnique : Type 0 where
+  pub start : Only replay-steps-start.Post
+  pub step : Only replay-steps-step.Post
+  pub ended : Only replay-steps-ended.Post
+
+pub record ReplayLinesUnique : Type 0 where
+  pub record-line : Only replay-lines-record-line.Post
+  pub record-line-kept : Fixes (λ κs x s. now (s .0)) replay-lines-record-line.Post
+  pub stop-line : Only replay-lines-stop-line.Post
+  pub stop-line-kept : Fixes (λ κs x s. now (s .0)) replay-lines-stop-line.Post
+  pub open-lines : Only replay-lines-open-lines.Post
+  pub open-lines-kept : Fixes (λ κs x s. now (s .0)) replay-lines-open-lines.Post

@@ -5,6 +5,7 @@ mod features;
 mod lines;
 mod powers;
 mod start;
+mod traces;
 
 fn main() {
     let mut config = [0u8; 4096];
@@ -19,5 +20,6 @@ fn main() {
     powers::registers(&config, &low, &high);
     powers::write(&config, &mut low, &mut high);
     energies::channels();
+    traces::replay();
     lines::listing(&config, &high);
 }

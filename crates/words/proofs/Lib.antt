@@ -1,4 +1,5 @@
 pub mod TestLaws
+pub mod ByteLaws
 pub mod NumberLaws
 pub mod StoreLaws
 pub mod PartStores

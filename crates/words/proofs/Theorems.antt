@@ -1,13 +1,15 @@
 -- Each theorem of Facts.antt, under its name. Assumes nothing.
 use Prim.Native.Nat.{ℕ, _+_}
 use mathlib.Core.Path.{_≡_, sym, ap, _∙_}
+use mathlib.Core.Logic.{_↔_, _≢_}
 use mathlib.Core.Bool.{Bool}
+use lib.Dec.{T}
 use mathlib.Core.List.{List, _∷_, _++_}
 use native.Mathlib.Nat.{add-comm, mul-comm}
 use Rattle.words.specs.Bytes.{numberAt}
-use Rattle.words.specs.Answers.{unless, gives, first}
+use Rattle.words.specs.Answers.{refused, unless, gives, first}
 use Rattle.words.specs.Below.{least}
-use Rattle.words.specs.Facts.{NumberFact, StoreFact, StoredTwoFact, ExactFact, FirstFact, UnlessFact, EarliestFact, AnyFact, FaultFact, IsLeast, LeastFact}
+use Rattle.words.specs.Facts.{NumberFact, StoreFact, StoredTwoFact, NoneHolds, Decides, numbered, ExactFact, FirstFact, UnlessFact, EarliestFact, AnyFact, FaultFact, IsLeast, LeastFact}
 use Rattle.words.proofs.NumberLaws.{number-byte, number-lt, number-past, number-split}
 use Rattle.words.proofs.StoreLaws.{stored-byte, stored-other, length-stored, stored-short, number-stored, stored-number, stored-stored, stored-two}
 use Rattle.words.proofs.AnswerLaws.{first-exactly, first-wins, unless-number, unless-gives, unless-refused, first-decides, decides-first, first-none, first-zero, earliest-pass, earliest-stop, earliest-zero, earliest-end}
@@ -54,6 +56,19 @@ unless-fact n vs =
       accepts = λ us. (unless-gives n, λ h. ap (λ (k : ℕ). unless k (gives vs)) (h .0) ∙ ap gives (h .1));
       refuses = λ m. (unless-refused n vs, λ h. ap (λ (k : ℕ). unless k (gives vs)) (h .0) ∙ unless-number m (gives vs) (h .1));
     }
+
+-- an answer by a chain of numbered tests
+module _ (ts : List (Bool × ℕ)) (us : List ℕ) where
+  pub chain-refuses : (m : ℕ) → (unless (first ts) (gives us) ≡ refused m) ↔ (Decides ts m × (m ≢ 0))
+  chain-refuses m =
+      let u = unless-fact (first ts) us .refuses m in
+      (λ e. (first-fact ts .decides m (u .0 e .1) .0 (u .0 e .0), u .0 e .1), λ d. u .1 (first-fact ts .decides m (d .1) .1 (d .0), d .1))
+
+  pub chain-accepts : T (numbered ts) → (vs : List ℕ) → (unless (first ts) (gives us) ≡ gives vs) ↔ (NoneHolds ts × (us ≡ vs))
+  chain-accepts n vs =
+      let u = unless-fact (first ts) us .accepts vs in
+      let f = first-fact ts .none n in
+      (λ e. (f .0 (u .0 e .0), u .0 e .1), λ d. u .1 (f .1 (d .0), d .1))
 
 pub earliest-fact : (n : ℕ) (ns : List ℕ) → EarliestFact n ns
 earliest-fact n ns =

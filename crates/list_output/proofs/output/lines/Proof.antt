@@ -7,20 +7,18 @@ use native.Mathlib.Omega.{arith}
 use lib.ListN.{length}
 use Rattle.text.proofs.PageLaws.{Stands, stands-start, length-over}
 use Rattle.list_output.specs.Output.{linesBelow}
-use Rattle.list_output.proofs.OutputLaws.{Listed, listed-none, listed-next}
+use Rattle.list_output.proofs.OutputLaws.{Shown, shown-none, shown-next}
 use Rattle.list_output.proofs.output.lines.Statement.{statement}
 use Rattle.list_output.proofs.output.lines.Tie as tie
 
 abbrev Inv-loop : tie.InvT-loop
-Inv-loop page₀ bar table entries at₀ k₀ page at k = (k ≤ entries) × Listed page₀ bar table k page at
+Inv-loop page₀ bar table entries at₀ k₀ page at k = (k ≤ entries) × Shown page₀ bar table k page at
 
 abbrev μ-loop : tie.MeasureT-loop
 μ-loop page₀ bar table entries at₀ k₀ page at k = entries - k
 
 loop-holds : tie.Need-loop-holds Inv-loop μ-loop
-loop-holds c =
-    let s = c .before .before in
-    (omega arith, listed-none (s .args .page .now) (s .args .bar .now) (s .args .table) (s .fits .table .fits) (s .pre))
+loop-holds c = let s = c .before .before in (omega arith, shown-none (s .args .page .now) (s .args .bar .now) (s .args .table))
 
 entry-requires : tie.Need-entry-requires Inv-loop μ-loop
 entry-requires c κs = search needs
@@ -36,7 +34,7 @@ loop-again c =
     let l = c .before .before .before .before .before .loop in
     let s = c .before .before .before .before .before .before .before .before in (
       omega arith,
-      listed-next (s .args .page .now) (s .args .bar .now) (s .args .table) (s .fits .table .fits) (s .pre) (l .k) (omega arith) (l .inv .1) (c .before .before .entry .ensures),
+      shown-next (s .args .page .now) (s .args .bar .now) (s .args .table) (s .fits .table .fits) (s .pre) (l .k) (omega arith) (l .inv .1) (c .before .before .entry .ensures),
     )
 
 same-length : tie.Need-same-length Inv-loop μ-loop

@@ -1,0 +1,4 @@
+pub mod PartialLaws
+pub mod Cuts
+pub mod Pieces
+pub mod Theorems

@@ -1,0 +1,3 @@
+pub mod BodyLaws
+pub mod BodyTrips
+pub mod Theorems

@@ -1,0 +1,3 @@
+pub mod SpokenLaws
+pub mod OpenFact
+pub mod LineFits

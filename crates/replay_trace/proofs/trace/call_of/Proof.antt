@@ -1,0 +1,58 @@
+-- `replay_trace::trace::call_of` meets its contract: the length of its kind, and then what its numbers say. Assumes nothing.
+use Prim.Native.Nat.{ℕ}
+use mathlib.Core.Path.{ap, _∙_}
+use mathlib.Core.List.{List}
+use Rattle.records_body.specs.Body.{numbersAt}
+use Rattle.replay_trace.specs.Trace.{meant}
+use Rattle.replay_trace.proofs.TraceLaws.{length-by, says-none, says-whole, gap-read}
+use native.Mathlib.Omega.{arith}
+use borrow.Author.Needs.{needs}
+use Rattle.replay_trace.proofs.trace.call_of.Statement.{statement}
+use Rattle.replay_trace.proofs.trace.call_of.Tie as tie
+
+u8-at-requires : tie.Need-u8-at-requires
+u8-at-requires c κs = search needs
+
+slice-aggregate-length-of : tie.Need-slice-aggregate-length-of
+slice-aggregate-length-of c = search needs
+
+length-of-requires : tie.Need-length-of-requires
+length-of-requires c κs = search needs
+
+returns : tie.Need-returns
+returns c =
+    let n = c .before in
+    says-none (n .before .before .before .before .args .bytes .now) (n .before .before .u8-at .ensures) (length-by _ _ (n .length-of .ensures)) (λ e. omega (arith, e, c .if1 .taken))
+
+widths-of-requires : tie.Need-widths-of-requires
+widths-of-requires c κs = search needs
+
+numbers-requires : tie.Need-numbers-requires
+numbers-requires c κs = search needs
+
+meant-requires : tie.Need-meant-requires
+meant-requires c κs =
+    let s = c .before .before .before .before .before .before in
+    gap-read (s .before .args .bytes .now) (λ k. s .shared-slice-known .given k .fits) (c .before .widths-of .ensures) (c .numbers .ensures)
+
+returns-2 : tie.Need-returns-2
+returns-2 c =
+    let p = c .before in
+    let n = p .before .before .before in
+    let r = n .before .before .before .before .args .bytes .now in
+    c .meant .ensures
+    ∙ ap (meant (n .before .before .u8-at .result)) (p .numbers .ensures ∙ ap (λ (ws : List ℕ). numbersAt ws r 1) (p .before .widths-of .ensures))
+    ∙ says-whole r (n .before .before .u8-at .ensures) (length-by _ _ (n .length-of .ensures)) (omega (arith, p .before .before .if1 .left))
+
+pub call-of-spec : {M : Type 1} → statement M
+call-of-spec =
+    tie.close
+    (tie.spec
+    u8-at-requires
+    slice-aggregate-length-of
+    length-of-requires
+    returns
+    widths-of-requires
+    numbers-requires
+    meant-requires
+    returns-2)
