@@ -6,13 +6,13 @@ use mathlib.Core.Path.{_≡_, refl, sym, ap, ap₂, _∙_, subst}
 use native.Mathlib.Nat.{pow-suc, add-suc, add-zero, not-suc-le-zero, eq-or-lt-of-le, le-of-suc-le-suc, mod-eq-of-lt}
 use native.Mathlib.Numerals.{add-one}
 use native.Mathlib.Omega.{arith}
-use lib.Dec.{lit<}
+use lib.Dec.{lit<, eqb}
 use lib.Pow.{shl-exact, high, low}
 use lib.Bits.{bitOr, or-shifted-r}
 use lib.Count.{ones, ones-cat}
 use Rattle.fields.specs.Bits.{field, bit}
-use Rattle.fields.specs.Masks.{one, howMany, maskOf, onwards}
-use Rattle.fields.proofs.FieldLaws.{field-mod}
+use Rattle.fields.specs.Masks.{one, howMany, maskOf, onwards, isSet}
+use Rattle.fields.proofs.FieldLaws.{field-lt, field-mod, same-bits}
 
 below-twice : (b : Bool) {t m : ℕ} → m < t → one b * t + m < t * 2
 below-twice true h = omega arith
@@ -80,3 +80,17 @@ many-add p m (suc n) = rw add-suc (omega (arith, many-add p m n))
 -- the next word's ones come on top
 pub count-more : (p : ℕ → Bool) (m n : ℕ) {total r : ℕ} → total ≡ howMany p m → r ≡ maskOf (onwards p m) n → total + ones r ≡ howMany p (m + n)
 count-more p m n {total} {r} t e = ap₂ (λ (x y : ℕ). x + y) t (ap ones e ∙ ones-mask (onwards p m) n) ∙ sym (many-add p m n)
+
+-- ---- the bits of a number as a test
+
+-- a bit is what its own test says
+bit-one : (b : ℕ) → b < 2 → one (eqb b 1) ≡ b
+bit-one zero h = refl
+bit-one (suc zero) h = refl
+bit-one (suc (suc b)) h = absurd (omega arith)
+
+pub mask-whole : (x n : ℕ) → x < 2 ^ n → maskOf (isSet x) n ≡ x
+mask-whole x n h = same-bits n _ x (mask-lt (isSet x) n) h (λ k l. mask-bit (isSet x) n k l ∙ bit-one (bit k x) (field-lt k 1 x))
+
+pub ones-many : (x n : ℕ) → x < 2 ^ n → ones x ≡ howMany (isSet x) n
+ones-many x n h = ap ones (sym (mask-whole x n h)) ∙ ones-mask (isSet x) n

@@ -7,12 +7,12 @@ use mathlib.Core.List.{List}
 use native.Mathlib.Omega.{arith}
 use Rattle.fields.specs.Bits.{withField, bit}
 use Rattle.fields.specs.Tables.{withFields, total}
-use Rattle.fields.specs.Facts.{FieldFact, BesideFact, SameBitsFact, RoundTrips, WiderFact, MisfitFact, SideBySide, MaskFact}
+use Rattle.fields.specs.Facts.{FieldFact, BesideFact, SameBitsFact, RoundTrips, WiderFact, MisfitFact, SideBySide, MaskFact, OnesFact}
 use Rattle.words.proofs.StoreLaws.{stored-other}
 use Rattle.fields.proofs.FieldLaws.{field-with, field-with-inside, field-with-below, field-with-above, field-lt, with-field, with-with, with-lt, same-bits}
 use Rattle.fields.proofs.TableLaws.{fit-length, fit-narrow, narrow-fit, structure-back, structure-kept, structure-carried, side-read, side-written}
 use Rattle.fields.proofs.WordLaws.{misfit-fits, misfit-table}
-use Rattle.fields.proofs.MaskLaws.{mask-bit, mask-lt, ones-mask}
+use Rattle.fields.proofs.MaskLaws.{mask-bit, mask-lt, ones-mask, mask-whole, ones-many}
 
 other-bits : (p w x v k : ℕ) → (k < p) ⊎ (p + w ≤ k) → bit k (withField p w x v) ≡ bit k x
 other-bits p w x v k (inl h) = field-with-below p w x v k 1 (omega arith)
@@ -61,3 +61,6 @@ side-by-side ws us x y h = record { read = side-read ws us x y h; written = side
 
 pub mask-fact : (p : ℕ → Bool) (n : ℕ) → MaskFact p n
 mask-fact p n = record { bits = mask-bit p n; below = mask-lt p n; count = ones-mask p n }
+
+pub ones-fact : (x n : ℕ) → OnesFact x n
+ones-fact x n = record { whole = mask-whole x n; count = ones-many x n }

@@ -12,7 +12,7 @@ use Rattle.words.specs.Bytes.{AllBytes, numberAt, stored}
 use Rattle.fields.specs.Bits.{field, withField, bit}
 use Rattle.fields.specs.Tables.{fields, withFields, total, Fit, wider, misfit, writtenWord}
 use Rattle.words.specs.Answers.{refused, gives}
-use Rattle.fields.specs.Masks.{one, howMany, maskOf}
+use Rattle.fields.specs.Masks.{one, howMany, maskOf, isSet}
 
 -- ---- fields of a number
 
@@ -90,3 +90,8 @@ pub record MaskFact (p : ℕ → Bool) (n : ℕ) : Type 0 where
   pub bits : (k : ℕ) → k < n → bit k (maskOf p n) ≡ one (p k)
   pub below : maskOf p n < 2 ^ n
   pub count : ones (maskOf p n) ≡ howMany p n
+
+-- A number of n bits is the mask of its own bits; so the ones that a machine counts in it are as many as its bits that are 1.
+pub record OnesFact (x n : ℕ) : Type 0 where
+  pub whole : x < 2 ^ n → maskOf (isSet x) n ≡ x
+  pub count : x < 2 ^ n → ones x ≡ howMany (isSet x) n

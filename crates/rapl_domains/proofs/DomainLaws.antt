@@ -1,34 +1,18 @@
 -- The lookup of a domain, stage by stage, and what its answer tells. Assumes nothing.
 use Prim.Native.Nat.{ℕ, _+_, _≤_, _<_}
-use mathlib.Core.Path.{_≡_, refl, sym, ap, _∙_}
-use mathlib.Core.Bool.{Bool, true, false, not, cond}
-use mathlib.Core.List.{List, [], _∷_}
+use mathlib.Core.Path.{_≡_, sym, ap, _∙_}
+use mathlib.Core.Bool.{true, false, not, cond}
+use mathlib.Core.List.{List}
 use mathlib.Core.Logic.{_≢_}
 use native.Mathlib.Omega.{arith}
 use borrow.Author.Tests.{lt-ltb, le-ltb, ltb-false}
 use lib.Dec.{ltb, eqb}
 use lib.ListN.{length, getD}
-use Rattle.words.specs.Answers.{refused, gives, unless, first}
-use Rattle.words.proofs.AnswerLaws.{unless-number, unless-gives, unless-refused, first-skip, first-take, first-zero, first-upto}
+use Rattle.words.specs.Answers.{refused, gives, unless}
+use Rattle.words.proofs.AnswerLaws.{unless-gives, unless-refused, first-skip, first-take, first-zero, first-upto, staged-refused, staged-gives, staged-last}
 use Rattle.words.proofs.TestLaws.{as-must, not-as-must, or-skip, or-take, or-second, or-neither}
 use Rattle.rapl_domains.specs.Domains.{values, blockAt, headerIn, missing, unused, wrong, unsound, domainNumber, domainOf}
 use Rattle.rapl_domains.specs.declared.domains.Header.{Header}
-
--- ---- a stage of one test
-
-pub staged-refused : (b : Bool) (n : ℕ) (xs : List ℕ) {m : ℕ} → cond b (refused n) (gives xs) ≡ refused m → (b ≡ true) × (n ≡ m)
-staged-refused true n xs e = (refl, cc)
-staged-refused false n xs e = let z : _≡_ {A = ℕ} 0 1 = cc in absurd (omega arith)
-
-pub staged-gives : (b : Bool) (n : ℕ) (xs : List ℕ) {ys : List ℕ} → cond b (refused n) (gives xs) ≡ gives ys → (b ≡ false) × (xs ≡ ys)
-staged-gives true n xs e = let z : _≡_ {A = ℕ} 0 1 = cc in absurd (omega arith)
-staged-gives false n xs e = (refl, cc)
-
--- the last stage is the answer
-staged-last : (b : Bool) (n : ℕ) (xs : List ℕ) → n ≢ 0 → unless (first ((b, n) ∷ [])) (gives xs) ≡ cond b (refused n) (gives xs)
-unfolding first
-staged-last true n xs h = unless-number n (gives xs) h
-staged-last false n xs h = refl
 
 -- a header is known by its numbers
 pub values-once : (g h : Header) → values g ≡ values h → g ≡ h

@@ -12,7 +12,7 @@ use lib.Dec.{leb}
 use Rattle.words.specs.Answers.{Answer, gives}
 use Rattle.words.specs.Bytes.{AllBytes, numberAt, stored}
 use Rattle.words.proofs.AnswerLaws.{unless-passes}
-use Rattle.words.proofs.StoreLaws.{number-stored, number-stored-below, number-stored-above, length-stored}
+use Rattle.words.proofs.StoreLaws.{number-stored, number-beside, length-stored}
 use Rattle.capture.specs.Capture.{Capture}
 use Rattle.tpmi_discovery.specs.Table.{barOf}
 use Rattle.tpmi_features.specs.Instances.{instancePart, instanceOr}
@@ -37,11 +37,6 @@ use Rattle.rapl_writes.proofs.WriteFact.{next-passes, in-instance, stor
 
 -- ---- a store beside the headers, in the bytes s of an instance
 
--- bytes that lie wholly before what is stored, or after it, are as they were
-beside : (s : List ℕ) (at x q : ℕ) → (q + 8 ≤ at) ⊎ (at + 8 ≤ q) → numberAt (stored s at 8 x) q 8 ≡ numberAt s q 8
-beside s at x q (inl h) = number-stored-below s at 8 x q 8 h
-beside s at x q (inr h) = number-stored-above s at 8 x q 8 h
-
 -- two registers that are not one share no byte
 apart : (n r n′ r′ : ℕ) → r ≤ 15 → r′ ≤ 15 → ((n ≡ n′) × (r ≡ r′) → ⊥) → (registerPlace n′ r′ + 8 ≤ registerPlace n r) ⊎ (registerPlace n r + 8 ≤ registerPlace n′ r′)
 apart n r n′ r′ a b h = by (leb (registerPlace n′ r′ + 8) (registerPlace n r)) (leb (registerPlace n r + 8) (registerPlace n′ r′)) refl refl
@@ -61,7 +56,7 @@ headers-same : (s : List ℕ) (n r x : ℕ) → 1 ≤ r → r ≤ 15 → SameHea
 unfolding headerIn
 headers-same s n r x a b = (
   length-stored s (registerPlace n r) 8 x,
-  λ m. ap headerOf (beside s (registerPlace n r) x (blockAt m) (header m (apart n r m 0 b (omega arith) (λ e. omega (arith, e .1))))),
+  λ m. ap headerOf (number-beside s (registerPlace n r) 8 x (blockAt m) 8 (header m (apart n r m 0 b (omega arith) (λ e. omega (arith, e .1))))),
 )
   where
     header : (m : ℕ) → (registerPlace m 0 + 8 ≤ registerPlace n r) ⊎ (registerPlace n r + 8 ≤ registerPlace m 0) → (blockAt m + 8 ≤ registerPlace n r) ⊎ (registerPlace n r + 8 ≤ blockAt m)
@@ -106,7 +101,7 @@ module _ (c : Capture) (i n limit which value : ℕ) (b : AllBytes (barOf c)) (z
   unfolding registerAt
   register-beside m r h l =
       ap (λ (s : List ℕ). numberAt s (registerPlace m r) 8) now-part
-      ∙ beside part (registerPlace n (limit + 1)) next (registerPlace m r) (apart n (limit + 1) m r (omega (arith, low)) l h)
+      ∙ number-beside part (registerPlace n (limit + 1)) 8 next (registerPlace m r) 8 (apart n (limit + 1) m r (omega (arith, low)) l h)
 
   register-now : registerAt (instancePart d 0 i) n (limit + 1) ≡ next
   unfolding registerAt

@@ -3,17 +3,15 @@ use Prim.Native.Nat.{ℕ, _+_, _≤_}
 use mathlib.Core.Path.{_≡_, sym, ap, _∙_}
 use mathlib.Core.List.{List, [], _∷_}
 use mathlib.Core.Logic.{_≢_}
-use native.Mathlib.Omega.{arith}
 use borrow.Author.Tests.{eq-eqb, ne-eqb}
-use lib.ListN.{length, drop, length-take}
 use Rattle.words.specs.Answers.{refused, gives, numberIn}
 use Rattle.words.proofs.AnswerLaws.{unless-passes}
 use Rattle.capture.specs.Capture.{Capture}
 use Rattle.capture.specs.Told.{numbers}
 use Rattle.capture.specs.declared.places.Place.{Place}
-use Rattle.tpmi_discovery.specs.Table.{barOf}
-use Rattle.tpmi_features.specs.Instances.{startFor, sizeFor, instanceNumber, instanceOf, instancePart}
-use Rattle.tpmi_features.proofs.InstanceLaws.{instance-at, part-found}
+use Rattle.tpmi_features.specs.Instances.{instanceOf, instancePart}
+use Rattle.tpmi_features.proofs.InstanceLaws.{instance-at}
+use Rattle.tpmi_features.proofs.InsideLaws.{in-size}
 use Rattle.tpmi_store.specs.Store.{lowWith, highWith, afterStore}
 use Rattle.tpmi_store.proofs.StoreLaws.{placed-store}
 use Rattle.rapl_registers.specs.Contents.{registerPlace}
@@ -22,10 +20,6 @@ use Rattle.rapl_permits.proofs.PermitLaws.{limit-small}
 use Rattle.rapl_writes.specs.Next.{nextContent, nextNumber, nextOf, nextFor}
 use Rattle.rapl_writes.specs.Write.{writeNumber, left}
 use Rattle.rapl_writes.proofs.NextLaws.{given-by, permitted, next-inside}
-
--- bytes inside an instance's part lie inside its size
-pub in-size : (c : Capture) (id n : ℕ) {at : ℕ} → instanceNumber c id n ≡ 0 → at ≤ length (instancePart c id n) → at ≤ sizeFor c id
-in-size c id n z h = omega (arith, h, ap length (part-found c id n z), length-take (sizeFor c id) (drop (startFor c id n) (barOf c)))
 
 module _ (c : Capture) (i n limit which value : ℕ) where
   pub left-kept : writeNumber c i n limit which value ≢ 0 → left c i n limit which value ≡ c

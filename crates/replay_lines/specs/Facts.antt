@@ -6,7 +6,8 @@ use mathlib.Core.Path.{_≡_}
 use mathlib.Core.Bool.{true, false}
 use mathlib.Core.List.{List, [], _++_}
 use lib.ListN.{length, getD, take, drop}
-use Rattle.text.specs.Page.{overAll, afterAll, joined}
+use Rattle.text.specs.Page.{joined}
+use Rattle.text.specs.Facts.{LineFits}
 use Rattle.energy_calls.specs.Calls.{told}
 use Rattle.energy_calls.specs.declared.calls.Call.{Call}
 use Rattle.energy_calls.specs.declared.calls.Answered.{Answered}
@@ -27,20 +28,13 @@ pub record OpenFact (cs : List Channel) : Type 0 where
   pub shows : (xs : List ℕ) → openNumber xs ≡ 0 → take (length (openText cs)) (openLeft xs cs) ≡ openText cs
   pub keeps : (xs : List ℕ) → openNumber xs ≡ 0 → drop (length (openText cs)) (openLeft xs cs) ≡ drop (length (openText cs)) xs
 
--- A line of at most w bytes, put at the start of a page of w bytes or more: the place after it is its length, and what stands before that
--- place is the line, whole.
-pub record LineFits (w : ℕ) (yss : List (List ℕ)) : Type 0 where
-  pub fits : length (joined yss) ≤ w
-  pub place : (xs : List ℕ) → w ≤ length xs → afterAll xs 0 yss ≡ length (joined yss)
-  pub shows : (xs : List ℕ) → w ≤ length xs → take (afterAll xs 0 yss) (overAll xs 0 yss) ≡ joined yss
-
 -- An answer as the code has it: a total of 64 bits, a refusal's number of 8.
 abbrev pub Sized : Answered → Type 0
 Sized Accepted = Unit {0}
 Sized (Total t) = t < 2 ^ 64
 Sized (Refused n) = n < 2 ^ 8
 
--- The line of a record has at most 76 bytes: its words and line feed 16, the place, the channel and the total 20 each.
+-- (LineFits, that a page so long shows the line whole: crate text, specs/Facts.) The line of a record has at most 76 bytes: its words and line feed 16, the place, the channel and the total 20 each.
 abbrev pub RecordLineFact : Type 0
 RecordLineFact = (p n : ℕ) (a : Call) (x : Answered) → p < 2 ^ 64 → n < 2 ^ 64 → Sized x → LineFits 76 (recordRuns p n a (told x))
 

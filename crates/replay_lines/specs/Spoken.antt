@@ -19,7 +19,7 @@ use lib.ListN.{length, getD}
 use Rattle.words.specs.Answers.{Answer, refused, gives, unless, first}
 use Rattle.text.specs.Page.{over, joined}
 use Rattle.text.specs.Numerals.{numeralOf}
-use Rattle.text.specs.Words.{lineFeed}
+use Rattle.text.specs.Words.{lineFeed, refusedWord}
 use Rattle.energy_calls.specs.declared.calls.Call.{Call}
 use Rattle.energy_calls.specs.declared.calls.Call.the-variants.{Open, Read, Resume, Close, Ask}
 use Rattle.energy_channel.specs.Channel.{closed, isOpen}
@@ -54,10 +54,6 @@ acceptedText = 32 ∷ 97 ∷ 99 ∷ 99 ∷ 101 ∷ 112 ∷ 116 ∷ 101 ∷ 100 �
 -- ` total `
 abbrev pub totalWord : List ℕ
 totalWord = 32 ∷ 116 ∷ 111 ∷ 116 ∷ 97 ∷ 108 ∷ 32 ∷ []
-
--- ` refused `
-abbrev pub refusedWord : List ℕ
-refusedWord = 32 ∷ 114 ∷ 101 ∷ 102 ∷ 117 ∷ 115 ∷ 101 ∷ 100 ∷ 32 ∷ []
 
 -- `stopped `
 abbrev pub stoppedWord : List ℕ

@@ -52,11 +52,11 @@ pub board-invalid : instanceNumber (afterStore board 0 0 0 (2 ^ 64 - 1)) 0 0 ≡
 unfolding first orElse earliest anyBelow firstBelow least numberAt field vsecOf vsecAt fixedWrong identifierAt nextAt vsecIdAt followed takenAt headerAt walkFrom emptyList walkOf entryOf entryAt bankOf bankIn emptyBank repeats meets faultAt faultsOf structureOf named barOf misshapen beforeWalk birNumber tableNumber locationNumber discoveryNumber indexIn unlisted bankFor featureNumber invalidAt unusable instanceNumber put inLow inHigh
 board-invalid = refl
 
-abbrev allBytes : List ℕ → Bool
+abbrev pub allBytes : List ℕ → Bool
 allBytes [] = true
 allBytes (x ∷ xs) = ltb x 256 && allBytes xs
 
-bytes-all : (xs : List ℕ) → allBytes xs ≡ true → AllBytes xs
+pub bytes-all : (xs : List ℕ) → allBytes xs ≡ true → AllBytes xs
 bytes-all [] e k = omega arith
 bytes-all (x ∷ xs) e zero = ltb-true x 256 (and-both (ltb x 256) (allBytes xs) e .0)
 bytes-all (x ∷ xs) e (suc k) = bytes-all xs (and-both (ltb x 256) (allBytes xs) e .1) k

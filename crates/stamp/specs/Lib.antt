@@ -1,4 +1,6 @@
 pub mod Unique
+pub mod UniqueUncore
 pub mod Table
 pub mod Roads
 pub mod Dummies
+pub mod Uncore

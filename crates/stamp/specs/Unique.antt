@@ -4,7 +4,7 @@
 --   Only P        the result is fixed: for all lifetimes κs and arguments a, and whatever the parameters are at exit
 --   Fixes out P   what `out` takes of the result and of the parameters at exit is fixed: the bytes of a part that is handed back, and what
 --                 was lent `&mut` as it is at exit (`s .0` is the first parameter at exit, `s .1 .0` the second, ..)
--- One record for each crate, one field for each public call.
+-- One record for each crate, one field for each public call; those of the uncore crates are in UniqueUncore.
 -- Assumes nothing.
 use mathlib.Core.Path.{_≡_}
 use denote.Ref.{now}

@@ -1,11 +1,11 @@
--- What is proved of words on a page and of numbers as text. Each record is one theorem, to be read without its proof; proofs/PageLaws.antt
--- and proofs/NumeralFact.antt have the proofs, under the same names with hyphens.
+-- What is proved of words on a page and of numbers as text. Each record is one theorem, to be read without its proof; proofs/PageLaws.antt,
+-- proofs/LinesLaws.antt and proofs/NumeralFact.antt have the proofs, under the same names with hyphens.
 -- Assumes nothing.
 use Prim.Native.Nat.{ℕ, _+_, _^_, _≤_, _<_}
 use mathlib.Core.Path.{_≡_}
 use mathlib.Core.Logic.{_⊎_}
 use mathlib.Core.List.{List, [], _∷_}
-use lib.ListN.{length, getD}
+use lib.ListN.{length, getD, take}
 use Rattle.text.specs.Page.{over, after, overAll, afterAll, joined}
 use Rattle.text.specs.Numerals.{glyphOf, placesOf, numeralOf, readAs}
 
@@ -22,6 +22,13 @@ pub record PutFact (xs : List ℕ) (at : ℕ) (ys : List ℕ) : Type 0 where
 pub record RunsFact (xs : List ℕ) (at : ℕ) (yss : List (List ℕ)) : Type 0 where
   pub words : at + length (joined yss) ≤ length xs → overAll xs at yss ≡ over xs at (joined yss)
   pub place : at + length (joined yss) ≤ length xs → afterAll xs at yss ≡ at + length (joined yss)
+
+-- A line of at most w bytes, put at the start of a page of w bytes or more: the place after it is its length, and what stands before that
+-- place is the line, whole.
+pub record LineFits (w : ℕ) (yss : List (List ℕ)) : Type 0 where
+  pub fits : length (joined yss) ≤ w
+  pub place : (xs : List ℕ) → w ≤ length xs → afterAll xs 0 yss ≡ length (joined yss)
+  pub shows : (xs : List ℕ) → w ≤ length xs → take (afterAll xs 0 yss) (overAll xs 0 yss) ≡ joined yss
 
 -- A number as text: it reads back as the number; every byte stands for a digit of the base; a zero stands in front of nothing but 0
 -- itself; it has as many digits as the number takes, at least one, and at most k where the number is below b to the k. So two numbers

@@ -1,9 +1,10 @@
-// The listing: of an input that is too short, and of entry 0 of the table.
+// The listing: of an input that is too short, and of entry 0 of the table; and a line of the clocks.
 use crate::start::say;
 use list_input::layout::low_in;
 use list_lines::line::Line;
 use list_lines::line::line_of;
 use list_output::output::list;
+use uncore_lines::clock_lines::refused_line;
 use words::answers::Value;
 
 // How many instances the line of entry 0 says.
@@ -27,5 +28,9 @@ pub(crate) fn listing(config: &[u8], high: &[u8]) {
     say(
         b"list_output: bytes of that input's listing",
         list(config, &mut page),
+    );
+    say(
+        b"uncore_lines: bytes of the line of a refused cluster",
+        Value::Is(refused_line(&mut page, 0, 1, 14) as u64),
     );
 }

@@ -3,6 +3,7 @@
 mod energies;
 mod features;
 mod lines;
+mod meshes;
 mod powers;
 mod start;
 mod traces;

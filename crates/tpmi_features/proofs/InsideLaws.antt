@@ -9,7 +9,7 @@ use native.Mathlib.Nat.{mul-le-mul, mul-assoc, add-mul, one-mul}
 use native.Mathlib.Omega.{arith}
 use borrow.Author.Tests.{leb-false, eqb-true, not-true}
 use lib.Dec.{eqb}
-use lib.ListN.{length}
+use lib.ListN.{length, drop, length-take}
 use Rattle.words.proofs.TestLaws.{and-both}
 use Rattle.words.proofs.AnswerLaws.{first-zero, earliest-zero}
 use Rattle.words.proofs.BelowLaws.{is-least}
@@ -128,3 +128,7 @@ part-at c id n {p} q =
     ∙ ap (piece (barOf c) (startFor c id n)) (q .size)
     ∙ piece-there (barOf c) (startFor c id n) (sizeFor c id) (instance-inside c id n (q .zero))
     ∙ part-found c id n (q .zero)
+
+-- bytes inside an instance's part lie inside its size
+pub in-size : (c : Capture) (id n : ℕ) {at : ℕ} → instanceNumber c id n ≡ 0 → at ≤ length (instancePart c id n) → at ≤ sizeFor c id
+in-size c id n z h = omega (arith, h, ap length (part-found c id n z), length-take (sizeFor c id) (drop (startFor c id n) (barOf c)))

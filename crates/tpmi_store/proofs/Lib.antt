@@ -1,4 +1,5 @@
 pub mod StoreLaws
 pub mod StoreLeaves
 pub mod AsBefore
+pub mod FieldStores
 pub mod Stores

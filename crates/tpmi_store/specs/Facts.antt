@@ -1,6 +1,6 @@
 -- What is proved of a store into an instance, for every capture, every feature and any 8 bytes inside the instance. Each is to be read
 -- without its proof; the proofs stand under the same names with hyphens: proofs/StoreLeaves.antt, proofs/StoreLaws.antt
--- (PlacedStore), proofs/AsBefore.antt.
+-- (PlacedStore), proofs/FieldStores.antt, proofs/AsBefore.antt.
 -- Assumes nothing.
 use Prim.Native.Nat.{ℕ, _+_, _%_, _^_, _≤_, _<_}
 use mathlib.Core.Path.{_≡_}
@@ -8,7 +8,8 @@ use mathlib.Core.Logic.{_⊎_, _≢_}
 use mathlib.Core.List.{List, [], _∷_}
 use lib.ListN.{length, getD}
 use Rattle.words.specs.Answers.{Answer, gives}
-use Rattle.words.specs.Bytes.{numberAt, stored}
+use Rattle.words.specs.Bytes.{AllBytes, numberAt, stored}
+use Rattle.fields.specs.Bits.{field, bit, withField}
 use Rattle.capture.specs.Capture.{Capture}
 use Rattle.capture.specs.Told.{numbers}
 use Rattle.capture.specs.declared.places.Place.{Place}
@@ -41,6 +42,25 @@ pub record StoreLeaves (c : Capture) (id n offset x : ℕ) : Type 0 where
 abbrev pub PlacedStore : Capture → ℕ → ℕ → ℕ → ℕ → Place → Type 0
 PlacedStore c id n offset x p = instanceOf c id n ≡ gives (numbers p) → offset + 8 ≤ sizeFor c id
     → (lowWith p offset x (c .lo) (c .low) ≡ afterStore c id n offset x .low) × (highWith p offset x (c .lo) (c .hi) (c .high) ≡ afterStore c id n offset x .high)
+
+-- ---- one field written
+
+-- What the write of v to the field of w bits from bit p on must leave, in the register at an offset of an instance: it stores its number and
+-- changes nothing else. Of any list `bar` that the BAR capture may hold afterwards: the field reads back as the number; every other bit of the
+-- register, and every other byte of the capture, is as it was; the register lies inside the instance.
+pub record FieldStoredIn (bar : List ℕ) (c : Capture) (id n offset p w v : ℕ) : Type 0 where
+  pub reads : field p w (numberAt bar (storedAt c id n offset) 8) ≡ v
+  pub bits : (k : ℕ) → (k < p) ⊎ (p + w ≤ k) → bit k (numberAt bar (storedAt c id n offset) 8) ≡ bit k (numberAt (barOf c) (storedAt c id n offset) 8)
+  pub bytes : (k : ℕ) → (k < storedAt c id n offset) ⊎ (storedAt c id n offset + 8 ≤ k) → getD bar k 0 ≡ getD (barOf c) k 0
+  pub size : length bar ≡ length (barOf c)
+  pub inside : storedAt c id n offset + 8 ≤ startFor c id n + sizeFor c id
+  pub whole : startFor c id n + sizeFor c id ≤ length (barOf c)
+
+-- A store of what the register holds with the field replaced leaves that, where the field lies in 64 bits and the number fits it. (That the
+-- BAR capture is a list of bytes is what its type says.)
+abbrev pub FieldStores : Capture → ℕ → ℕ → ℕ → ℕ → ℕ → ℕ → Type 0
+FieldStores c id n offset p w v = Within c id n offset → AllBytes (barOf c) → p + w ≤ 64 → v < 2 ^ w
+    → FieldStoredIn (barOf (afterStore c id n offset (withField p w (numberAt (instancePart c id n) offset 8) v))) c id n offset p w v
 
 -- ---- every lookup that does not read these bytes
 

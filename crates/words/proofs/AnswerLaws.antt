@@ -1,7 +1,7 @@
 -- Laws of `unless`, `first` and `earliest`: a chain of tests, test by test; stages, one by one; and back again. Assumes nothing.
 use Prim.Native.Nat.{ℕ, zero, suc, _≤_}
 use mathlib.Core.Path.{_≡_, refl, ap, sym, _∙_, subst}
-use mathlib.Core.Logic.{_↔_, _≢_}
+use mathlib.Core.Logic.{_⊎_, inl, inr, ⊎-elim, _↔_, _≢_}
 use mathlib.Core.List.{List, [], _∷_, _++_}
 use mathlib.Core.Bool.{Bool, true, false, not, _&&_, cond}
 use native.Mathlib.Omega.{arith}
@@ -218,3 +218,45 @@ stage-passes {n} ns a z e = ap (λ (k : ℕ). unless k a) (earliest-pass ns z) �
 -- the last stage is the answer
 pub stage-last : (n : ℕ) (a : Answer) → unless (earliest (n ∷ [])) a ≡ unless n a
 stage-last n a = ap (λ (k : ℕ). unless k a) (earliest-last n)
+
+-- ---- a stage of one test, which refuses or gives
+
+pub staged-refused : (b : Bool) (n : ℕ) (xs : List ℕ) {m : ℕ} → cond b (refused n) (gives xs) ≡ refused m → (b ≡ true) × (n ≡ m)
+staged-refused true n xs e = (refl, cc)
+staged-refused false n xs e = let z : _≡_ {A = ℕ} 0 1 = cc in absurd (omega arith)
+
+pub staged-gives : (b : Bool) (n : ℕ) (xs : List ℕ) {ys : List ℕ} → cond b (refused n) (gives xs) ≡ gives ys → (b ≡ false) × (xs ≡ ys)
+staged-gives true n xs e = let z : _≡_ {A = ℕ} 0 1 = cc in absurd (omega arith)
+staged-gives false n xs e = (refl, cc)
+
+-- the last stage is the answer
+pub staged-last : (b : Bool) (n : ℕ) (xs : List ℕ) → n ≢ 0 → unless (first ((b, n) ∷ [])) (gives xs) ≡ cond b (refused n) (gives xs)
+unfolding first
+staged-last true n xs h = unless-number n (gives xs) h
+staged-last false n xs h = refl
+
+-- ---- a value behind two stages, as a write gives it
+
+module _ (p q x : ℕ) where
+  -- both stages pass and the value comes, or one of them refuses
+  two-answered : ((p ≡ 0) × (q ≡ 0) × (unless p (unless q (gives (x ∷ []))) ≡ gives (x ∷ []))) ⊎ ((m : ℕ) × (m ≢ 0) × (unless p (unless q (gives (x ∷ []))) ≡ refused m))
+  two-answered = by p q refl refl
+    where
+      by : (a b : ℕ) → p ≡ a → q ≡ b
+          → ((p ≡ 0) × (q ≡ 0) × (unless p (unless q (gives (x ∷ []))) ≡ gives (x ∷ []))) ⊎ ((m : ℕ) × (m ≢ 0) × (unless p (unless q (gives (x ∷ []))) ≡ refused m))
+      by zero zero e f = inl (e, f, unless-passes _ e ∙ unless-passes _ f)
+      by zero (suc b) e f = inr (suc b, (λ z. omega arith), unless-passes _ e ∙ ap (λ (k : ℕ). unless k (gives (x ∷ []))) f)
+      by (suc a) b e f = inr (suc a, (λ z. omega arith), ap (λ (k : ℕ). unless k (unless q (gives (x ∷ [])))) e)
+
+  -- the number alone tells the stages, whether a value comes, and the refusal
+  pub two-stages : numberIn (unless p (unless q (gives (x ∷ [])))) ≡ 0 → (p ≡ 0) × (q ≡ 0)
+  two-stages z = ⊎-elim (λ w. (w .0, w .1)) (λ w. absurd (w .1 (sym (ap numberIn (w .2)) ∙ z))) two-answered
+
+  pub two-value : (numberIn (unless p (unless q (gives (x ∷ [])))) ≡ 0) ↔ ((y : ℕ) × (unless p (unless q (gives (x ∷ []))) ≡ gives (y ∷ [])))
+  two-value = (λ z. ⊎-elim (λ w. (x, w .2)) (λ w. absurd (w .1 (sym (ap numberIn (w .2)) ∙ z))) two-answered, λ g. ap numberIn (g .1))
+
+  pub two-refusal : (m : ℕ) → m ≢ 0 → (numberIn (unless p (unless q (gives (x ∷ [])))) ≡ m) ↔ (unless p (unless q (gives (x ∷ []))) ≡ refused m)
+  two-refusal m h = (
+    λ e. ⊎-elim (λ w. absurd (h (sym e ∙ ap numberIn (w .2)))) (λ w. w .2 ∙ ap refused (sym (ap numberIn (w .2)) ∙ e)) two-answered,
+    ap numberIn,
+  )

@@ -3,7 +3,7 @@ use Prim.Native.Nat.{ℕ, zero, suc, _+_, _-_, _*_, _/_, _%_, _^_, _≤_, _<_}
 use mathlib.Core.Path.{_≡_, refl, sym, ap, ap₂, _∙_}
 use mathlib.Core.Bool.{Bool, true, false, cond}
 use mathlib.Core.List.{List, [], _∷_}
-use mathlib.Core.Logic.{_⊎_, inl, inr}
+use mathlib.Core.Logic.{_⊎_, inl, inr, ⊎-elim}
 use borrow.Author.Tests.{le-leb, lt-leb}
 use lib.Arith.{digits-div, digits-mod, mod-mul}
 use lib.Dec.{leb}
@@ -150,6 +150,10 @@ module _ (xs : List ℕ) (at n v : ℕ) where
 
   pub number-stored-above : (q m : ℕ) → at + n ≤ q → numberAt (stored xs at n v) q m ≡ numberAt xs q m
   number-stored-above q m h = number-same _ _ q m (λ k a b. stored-other k (inr (omega arith)))
+
+  -- a number of bytes that lie wholly before what is stored, or after it
+  pub number-beside : (q m : ℕ) → (q + m ≤ at) ⊎ (at + n ≤ q) → numberAt (stored xs at n v) q m ≡ numberAt xs q m
+  number-beside q m = ⊎-elim (number-stored-below q m) (number-stored-above q m)
 
 pub stored-number : (xs : List ℕ) → AllBytes xs → (at n : ℕ) → stored xs at n (numberAt xs at n) ≡ xs
 stored-number xs b at n = either xs at n (numberAt xs at n) (λ l. l ≡ xs) (put-number xs b at n) refl

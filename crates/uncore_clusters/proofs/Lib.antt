@@ -1,0 +1,5 @@
+pub mod ClusterLaws
+pub mod ClustersFact
+pub mod PlaceFact
+pub mod HangsOnHead
+pub mod Cases

@@ -1,0 +1,3 @@
+pub mod ClockLaws
+pub mod LineFits
+pub mod Cases

@@ -1,0 +1,2 @@
+pub mod ClockLines
+pub mod Facts

@@ -1,0 +1,2 @@
+pub mod FabricLaws
+pub mod FabricRoads

@@ -1,0 +1,2 @@
+pub mod Fabric
+pub mod Facts

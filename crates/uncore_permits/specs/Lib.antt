@@ -1,0 +1,2 @@
+pub mod ControlFields
+pub mod Facts

@@ -1,0 +1,5 @@
+pub mod HeaderLaws
+pub mod OffsetsLaws
+pub mod StatusLaws
+pub mod Theorems
+pub mod Cases

@@ -1,0 +1,4 @@
+pub mod Header
+pub mod Offsets
+pub mod Status
+pub mod Facts

@@ -1,0 +1,3 @@
+pub mod ControlNext
+pub mod ControlWrite
+pub mod Facts
