@@ -22,6 +22,30 @@ number-over-the-end : numberAt sample 6 4 ≡ 1
 unfolding numberAt
 number-over-the-end = refl
 
+-- a register of eight bytes, its high half 0x00010004
+register-whole : numberAt sample 0 8 ≡ 0x0001000400600100
+unfolding numberAt
+register-whole = refl
+
+-- of the high half two bytes are there
+register-over-the-end : numberAt sample 2 8 ≡ 0x0000000100040060
+unfolding numberAt
+register-over-the-end = refl
+
+-- of the high half none is there
+register-low-half-alone : numberAt sample 4 8 ≡ 0x00010004
+unfolding numberAt
+register-low-half-alone = refl
+
+-- no byte is there, nor at the last place that a machine word names
+register-at-the-end : numberAt sample 8 8 ≡ 0
+unfolding numberAt
+register-at-the-end = refl
+
+register-at-the-last-place : numberAt sample 0xFFFFFFFFFFFFFFFF 8 ≡ 0
+unfolding numberAt
+register-at-the-last-place = refl
+
 stored-inside : stored sample 2 2 0x1234 ≡ 0x00 ∷ 0x01 ∷ 0x34 ∷ 0x12 ∷ 0x04 ∷ 0x00 ∷ 0x01 ∷ 0x00 ∷ []
 unfolding put
 stored-inside = refl

@@ -1,6 +1,7 @@
-// Numbers in a slice of bytes, lowest byte first: one loop reads, and each width is a thin call of it.
+// Numbers in a slice of bytes, lowest byte first. One loop reads two or four bytes, a byte at a time; a register's eight are two halves of four.
 ghost use mathlib.Core.Path.{_≡_};
-ghost use Prim.Native.Nat.{_≤_};
+ghost use Prim.Native.Nat.{_≤_, min};
+ghost use lib.ListN.{length};
 ghost use Rattle.words.specs.Bytes.{numberAt};
 
 // The byte at place `at`; 0 past the end.
@@ -46,8 +47,19 @@ pub fn u32_at(s: &[u8], at: usize) -> u32
     number_at(s, at, 4) as u32
 }
 
+// The place, or the end where it lies past it: from either all reads 0 then. A slice is shorter than 2^63, so that four bytes on can't wrap.
+fn at_or_end(s: &[u8], at: usize) -> usize
+    ensures answer { λ r. ⌜ r ≡ min at (length (now (s .entry))) ⌝ }
+{
+    if at < s.len() { at } else { s.len() }
+}
+
+// Eight bytes, as a register has them, in two halves of 32 bits. Each half is one call of `u32_at`, wherever it lies: no branch goes round it.
 pub fn u64_at(s: &[u8], at: usize) -> u64
     ensures answer { λ r. ⌜ r ≡ numberAt (now (s .entry)) at 8 ⌝ }
 {
-    number_at(s, at, 8)
+    let from = at_or_end(s, at);
+    let low = u32_at(s, from) as u64;
+    let high = u32_at(s, from + 4) as u64;
+    (high << 32) + low
 }
