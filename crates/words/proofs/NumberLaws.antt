@@ -1,16 +1,13 @@
 -- The number of n bytes at a place: its size, its bytes, its parts. Assumes nothing.
 use Prim.Native.Nat.{ℕ, zero, suc, _+_, _-_, _*_, _/_, _%_, _^_, _≤_, _<_, min}
 use mathlib.Core.Path.{_≡_, refl, sym, ap, ap₂, _∙_}
-use mathlib.Core.Bool.{Bool, true, false}
 use mathlib.Core.List.{List}
-use lib.Dec.{ltb}
-use borrow.Author.Tests.{ltb-true, ltb-false}
 use lib.Pow.{shl-exact}
 use lib.Arith.{digits-lt, digits-div, digits-mod}
 use lib.ListN.{length, getD, take, drop, List·getD-eq-default}
 use lib.Seq.{getD-take, getD-drop}
 use native.Mathlib.Nat.{not-suc-le-zero, one-le-pow, pow-suc, pow-succ', zero-add, add-zero, suc-add, add-suc, add-assoc, add-mul, mul-assoc, mul-one, div-one, div-div-eq-div-mul, zero-lt-suc, lt-of-lt-of-le, pow-le-pow-right}
-use native.Mathlib.Omega.{arith}
+use native.Mathlib.Omega.{arith, min-cases}
 use Rattle.words.specs.Bytes.{AllBytes, numberAt}
 
 pub number-lt : (xs : List ℕ) → AllBytes xs → (at n : ℕ) → numberAt xs at n < 256 ^ n
@@ -69,17 +66,10 @@ number-split xs at (suc m) n = rw (suc-add, number-split xs (suc at) m n, pow-su
 pub number-halves : (xs : List ℕ) (at : ℕ) {high low : ℕ} → high ≡ numberAt xs (at + 4) 4 → low ≡ numberAt xs at 4 → high < 2 ^ 32 → high * 2 ^ 32 % 2 ^ 64 + low ≡ numberAt xs at 8
 number-halves xs at {high} {low} h l b = ap (λ (x : ℕ). x + low) (shl-exact 32 32 64 b (omega arith)) ∙ ap₂ (λ (x y : ℕ). x * 2 ^ 32 + y) h l ∙ sym (number-split xs at 4 4)
 
--- a place past the end may be taken for the end: m bytes on from either all is 0
-pub number-from : (xs : List ℕ) (at m n : ℕ) {from : ℕ} → from ≡ min at (length xs) → numberAt xs (from + m) n ≡ numberAt xs (at + m) n
-number-from xs at m n {from} e = go (ltb at (length xs)) refl
-  where
-    go : (v : Bool) → ltb at (length xs) ≡ v → numberAt xs (from + m) n ≡ numberAt xs (at + m) n
-    go true f =
-        let l : at < length xs = ltb-true _ _ f in
-        ap (λ (k : ℕ). numberAt xs (k + m) n) (omega arith)
-    go false f =
-        let l : length xs ≤ at = ltb-false _ _ f in
-        number-past xs (from + m) n (omega arith) ∙ sym (number-past xs (at + m) n (omega arith))
+-- a place past the end may be taken for the end: from either all is 0
+pub number-from : (xs : List ℕ) (at n : ℕ) {from : ℕ} → from ≡ min at (length xs) → numberAt xs from n ≡ numberAt xs at n
+number-from xs at n {from} e =
+    min-cases at (length xs) _ (λ l f. ap (λ (k : ℕ). numberAt xs k n) (e ∙ f)) (λ l f. number-past xs from n (omega arith) ∙ sym (number-past xs at n l))
 
 -- ---- a part of a list
 

@@ -47,7 +47,8 @@ pub fn u32_at(s: &[u8], at: usize) -> u32
     number_at(s, at, 4) as u32
 }
 
-// The place, or the end where it lies past it: from either all reads 0 then. A slice is shorter than 2^63, so that four bytes on can't wrap.
+// `at`, or the end of the slice where `at` lies past it: from there on every byte reads 0, as from `at`. A slice is shorter than 2^63, so that
+// four bytes on can't wrap.
 fn at_or_end(s: &[u8], at: usize) -> usize
     ensures answer { λ r. ⌜ r ≡ min at (length (now (s .entry))) ⌝ }
 {

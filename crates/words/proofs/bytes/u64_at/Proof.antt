@@ -1,7 +1,6 @@
 -- `words::bytes::u64_at` meets its contract: the two halves, by the split law. No bit is lost, since a half has 32. Assumes nothing.
 use Prim.Native.Nat.{_+_, min}
 use mathlib.Core.Path.{_≡_, _∙_}
-use native.Mathlib.Nat.{add-zero}
 use native.Mathlib.Omega.{arith}
 use lib.ListN.{length}
 use borrow.Author.Needs.{needs}
@@ -39,9 +38,7 @@ returns c =
     let there : from ≡ min at (length s) = c .before .before .at-or-end .ensures in
     let low-read : c .before .u32-at .result ≡ numberAt s from 4 = c .before .u32-at .ensures in
     let high-read : c .u32-at2 .result ≡ numberAt s (from + 4) 4 = c .u32-at2 .ensures in
-    let low : c .before .u32-at .result ≡ numberAt s at 4 = low-read ∙ rw (add-zero from, add-zero at) at (number-from s at 0 4 there) in
-    let high : c .u32-at2 .result ≡ numberAt s (at + 4) 4 = high-read ∙ number-from s at 4 4 there in
-    number-halves s at high low (omega arith)
+    number-halves s from high-read low-read (omega arith) ∙ number-from s at 8 there
 
 pub u64-at-spec : {M : Type 1} → statement M
 u64-at-spec = tie.close (tie.spec at-or-end-requires u32-at-requires cast-low add-u32-at u32-at-requires-2 cast-high add-result returns)
