@@ -29,14 +29,15 @@ use Rattle.energy_hall.proofs.Runs.{own-entered, passed-over, closed-at, length
 pub turn-rise : (v w : ℕ) → v ≤ w → w < v + 2 ^ 32 → (w % 2 ^ 32 + 2 ^ 32 - v % 2 ^ 32) % 2 ^ 32 ≡ w - v
 turn-rise v w h k = omega arith
 
--- The record of a running account: open as it was opened, with the tick and the remainder of the count of the call accepted last, and the
--- account's sum as its total.
+-- The record of a running account: open as it was opened, with the tick, the boot number and the remainder of the count of the call accepted
+-- last, and the account's sum as its total.
 record Matches (c : Channel) (o : Opening) (l : Reading) (v s : ℕ) : Type 0 where
   is-open : isOpen c ≡ true
   unit : c .unit ≡ o .unit
   gap : c .gap ≡ o .gap
   tick : c .tick ≡ l .tick
   count : c .count ≡ v % 2 ^ 32
+  boot : c .boot ≡ l .boot
   total : c .total ≡ s
 
 abbrev Agrees : Channel → Account → Type 0
@@ -46,10 +47,10 @@ Agrees c (running o l v s) = Matches c o l v s
 shut-closed : (c : Channel) → c ≡ closed → isOpen c ≡ true → ⊥
 shut-closed c e p = false≢true (sym (open-live c (ap (λ (d : Channel). d .live) e)) ∙ p)
 
--- what is supposed of an accepted reading leaves less than one turn
+-- an accepted reading has the boot number of the call accepted last, and what is supposed of it leaves less than one turn
 less-than-a-turn : (c : Channel) (o : Opening) (l : Reading) (v s : ℕ) → Matches c o l v s → (q : Reading) (w : ℕ) → refusalOf c (Read q) ≡ 0
     → Rises o l q v w → (v ≤ w) × (w < v + 2 ^ 32)
-less-than-a-turn c o l v s r q w e h = (h .0, omega (arith, h .1))
+less-than-a-turn c o l v s r q w e h = let p = h (reads-past c q e .4 ∙ r .boot) in (p .0, omega (arith, p .1))
 
 agrees-accepted : (c : Channel) (x : Account) (a : Call) (w : ℕ) → Agrees c x → refusalOf c a ≡ 0 → Fair x a w → Agrees (taken c a) (entered x a w)
 unfolding taken
@@ -60,6 +61,7 @@ agrees-accepted c x (Open o) w m e f =
       gap = refl;
       tick = refl;
       count = f;
+      boot = refl;
       total = refl;
     }
 agrees-accepted c shut (Read q) w m e f = absurd (shut-closed c m (reads-past c q e .0))
@@ -74,6 +76,7 @@ agrees-accepted c (running o l v s) (Read q) w m e f =
       gap = m .gap;
       tick = refl;
       count = f .0;
+      boot = refl;
       total = omega (arith, m .total, r);
     }
 agrees-accepted c shut (Resume q) w m e f = absurd (shut-closed c m (resumes-past c q e .0))
@@ -85,6 +88,7 @@ agrees-accepted c (running o l v s) (Resume q) w m e f =
       gap = m .gap;
       tick = refl;
       count = f;
+      boot = refl;
       total = m .total;
     }
 agrees-accepted c x Close w m e f = refl

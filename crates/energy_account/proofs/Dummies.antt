@@ -26,7 +26,7 @@ night-first : firstRise (calls night) 3 ≡ gives (32 ∷ [])
 unfolding answerOn leavesOn testsOn tests values taken isOpen inRange first field
 night-first = refl
 
-same-value : {m n : ℕ} → gives (m ∷ []) ≡ gives (n ∷ []) → m ≡ n
+pub same-value : {m n : ℕ} → gives (m ∷ []) ≡ gives (n ∷ []) → m ≡ n
 same-value e = ap (λ (a : Answer). valueIn a 0) e
 
 same-number : (a : Answer) → numberIn (nothing a) ≡ numberIn a

@@ -33,10 +33,11 @@ record Near (c d : Channel) : Type 0 where
   gap : d .gap ≡ c .gap
   tick : d .tick ≡ c .tick
   count : d .count ≡ c .count
+  boot : d .boot ≡ c .boot
   total : d .total ≤ c .total
 
 itself : (c : Channel) → Near c c
-itself c = record { is-open = refl; unit = refl; gap = refl; tick = refl; count = refl; total = omega arith }
+itself c = record { is-open = refl; unit = refl; gap = refl; tick = refl; count = refl; boot = refl; total = omega arith }
 
 -- a reading or a resumption of an open channel, that leaves these totals
 noted-near : (c d : Channel) → Near c d → isOpen c ≡ true → (q : Reading) (t u : ℕ) → t ≤ most → u ≤ t
@@ -50,6 +51,7 @@ noted-near c d n o q t u m l =
       gap = n .gap;
       tick = refl;
       count = refl;
+      boot = refl;
       total = l;
     }
 
@@ -69,7 +71,7 @@ step true c d (Read q) n e =
 step false c d (Read q) n e =
     let p = reads-past c q e in
     let r = same-rise c d n (q .status) in (
-      reads-0 d q (rise d (q .status)) refl (n .is-open ∙ p .0) (omega (arith, n .tick, p .1)) (omega (arith, n .tick, n .gap, p .2)) (omega (arith, n .total, p .3, r)),
+      reads-0 d q (rise d (q .status)) refl (n .is-open ∙ p .0) (p .4 ∙ sym (n .boot)) (omega (arith, n .tick, p .1)) (omega (arith, n .tick, n .gap, p .2)) (omega (arith, n .total, p .3, r)),
       noted-near c d n (p .0) q _ _ (p .3) (omega (arith, n .total, r)),
     )
 step b c d (Resume q) n e =

@@ -25,11 +25,11 @@ night-answered = refl
 supposed-3 : Supposed shut (entries 3 night answers)
 unfolding field
 supposed-3 =
-    (refl, ((refl, (omega arith, omega arith)), ((refl, (omega arith, omega arith)), ((refl, (omega arith, omega arith)), (refl, ((refl, (omega arith, omega arith)), tt))))))
+    (refl, ((refl, λ e. (omega arith, omega arith)), ((refl, λ e. (omega arith, omega arith)), ((refl, λ e. (omega arith, omega arith)), (refl, ((refl, λ e. (omega arith, omega arith)), (refl, ((refl, λ e. (omega arith, omega arith)), tt))))))))
 
 supposed-5 : Supposed shut (entries 5 night answers)
 unfolding field
-supposed-5 = (refl, ((refl, (omega arith, omega arith)), tt))
+supposed-5 = (refl, ((refl, λ e. (omega arith, omega arith)), tt))
 
 no-other : (k : ℕ) → k ≢ 3 → k ≢ 5 → entries k night answers ≡ []
 no-other k a b = simp (ne-eqb 3 k (λ e. a (sym e)), ne-eqb 5 k (λ e. b (sym e)))

@@ -84,9 +84,10 @@ abbrev pub Shows : Reading → ℕ → Type 0
 Shows q w = countOf (q .status) ≡ w % 2 ^ 32
 
 -- Into the accepted reading q, at whole count w, from the opening, reading or resumption accepted last, which saw l at whole count
--- v: the count has not fallen, and has risen by less than one turn. The opening o, l and q are at hand for a weaker supposition.
+-- v: within one boot number the count has not fallen, and has risen by less than one turn (document 02, request 4: a restart begins a count
+-- anew, under another boot number). The opening o is at hand for a weaker supposition.
 abbrev pub Rises : (opening : Opening) (last reading : Reading) → ℕ → ℕ → Type 0
-Rises o l q v w = (v ≤ w) × (w < v + 2 ^ 32)
+Rises o l q v w = q .boot ≡ l .boot → (v ≤ w) × (w < v + 2 ^ 32)
 
 abbrev pub Fair : Account → Call → ℕ → Type 0
 Fair x (Open o) w = Shows (o .seen) w

@@ -27,10 +27,11 @@ closing xs k = answerOn (leavesAll allClosed xs) k Close
 
 -- Demand 3, of any meter that accepts and refuses calls as ours does, and answers the total by `ask`. Take any events in a row, refused
 -- calls among them, all channels closed at first, and any channel k. Suppose that at each accepted opening, reading and resumption of
--- channel k the status register shows the whole count's remainder by 2^32, and that into each accepted reading the whole count has not
--- fallen and has risen by less than 2^32 from the opening, reading or resumption accepted last before it. Then asking for the total
--- answers 12 where there is no channel k, 22 where it is shut, and else the sum of these rises into readings since its latest accepted
--- opening. (Document 00 supposes more: that the count never falls under one opening.)
+-- channel k the status register shows the whole count's remainder by 2^32, and that into each accepted reading the whole count, where the
+-- boot number is that of the opening, reading or resumption accepted last before it, has not fallen from there and has risen by less than
+-- 2^32. Then asking for the total answers 12 where there is no channel k, 22 where it is shut, and else the sum of these rises into
+-- readings since its latest accepted opening. (Documents 00 and 02 suppose more: that within one boot number the count never falls under
+-- one opening.)
 abbrev pub Demand3Of : Asked → Type 0
 Demand3Of ask = (k : ℕ) (es : List Event) → Supposed shut (history k es) → ask (calls es) k ≡ due k (account shut (history k es))
 

@@ -3,10 +3,11 @@ ghost use mathlib.Core.Path.{_≡_};
 ghost use Rattle.words.specs.Answers.{numberIn};
 ghost use Rattle.energy_calls.specs.Calls.{readingOf, openingOf, countOf, told};
 
-// What is seen at a moment: the tick in ms and the status register.
+// What is seen at a moment: the tick in ms, the status register, and the boot number of the machine, which each of its restarts changes.
 pub struct Reading {
     pub tick: u64,
     pub status: u64,
+    pub boot: u32,
 }
 
 // What an opening is handed: energy unit, gap limit in ms, and what is seen.
@@ -32,22 +33,23 @@ pub enum Answered {
     Refused(u8),
 }
 
-pub fn reading_of(tick: u64, status: u64) -> Reading
-    ensures answer { λ r. ⌜ r ≡ readingOf tick status ⌝ }
+pub fn reading_of(tick: u64, status: u64, boot: u32) -> Reading
+    ensures answer { λ r. ⌜ r ≡ readingOf tick status boot ⌝ }
 {
     Reading {
         tick: tick,
         status: status,
+        boot: boot,
     }
 }
 
-pub fn opening_of(unit: u64, gap: u32, tick: u64, status: u64) -> Opening
-    ensures answer { λ r. ⌜ r ≡ openingOf unit gap tick status ⌝ }
+pub fn opening_of(unit: u64, gap: u32, tick: u64, status: u64, boot: u32) -> Opening
+    ensures answer { λ r. ⌜ r ≡ openingOf unit gap tick status boot ⌝ }
 {
     Opening {
         unit: unit,
         gap: gap,
-        seen: reading_of(tick, status),
+        seen: reading_of(tick, status, boot),
     }
 }
 

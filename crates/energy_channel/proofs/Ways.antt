@@ -3,26 +3,27 @@ use Prim.Native.Nat.{ℕ, _+_, _-_, _≤_}
 use mathlib.Core.Path.{_≡_, refl, sym, subst, _∙_}
 use mathlib.Core.Bool.{Bool, true, false}
 use native.Mathlib.Omega.{arith}
-use native.Mathlib.Decide.{decLe}
+use native.Mathlib.Decide.{decLe, ℕ-discrete as decide}
 use Rattle.energy_channel.specs.Channel.{most, inRange, isOpen, rise, refusalOf}
-use Rattle.energy_channel.specs.Ways.{Way, opens-open, opens-out-of-range, opens, reads-closed, reads-no-later, reads-past-the-gap, reads-too-much, reads, resumes-closed, resumes-no-later, resumes, closes-closed, closes, asks-closed, asks}
+use Rattle.energy_channel.specs.Ways.{Way, opens-open, opens-out-of-range, opens, reads-closed, reads-another-boot, reads-no-later, reads-past-the-gap, reads-too-much, reads, resumes-closed, resumes-no-later, resumes, closes-closed, closes, asks-closed, asks}
 use Rattle.energy_channel.specs.Facts.{Ways}
 use Rattle.energy_calls.specs.declared.calls.Opening.{Opening}
 use Rattle.energy_calls.specs.declared.calls.Reading.{Reading}
 use Rattle.energy_calls.specs.declared.calls.Call.{Call}
 use Rattle.energy_calls.specs.declared.calls.Call.the-variants.{Open, Read, Resume, Close, Ask}
 use Rattle.energy_channel.specs.declared.channel.Channel.{Channel}
-use Rattle.energy_channel.proofs.ChannelLaws.{opens-22, opens-17, opens-0, reads-22, reads-20, reads-21, reads-23, reads-0, resumes-22, resumes-20, resumes-0, closes-like-asks, asks-22, asks-0}
+use Rattle.energy_channel.proofs.ChannelLaws.{opens-22, opens-17, opens-0, reads-22, reads-29, reads-20, reads-21, reads-23, reads-0, resumes-22, resumes-20, resumes-0, closes-like-asks, asks-22, asks-0}
 
 way-number : {c : Channel} {a : Call} {n : ℕ} → Way c a n → refusalOf c a ≡ n
 way-number {c} (opens-open {o} p) = opens-22 c o p
 way-number {c} (opens-out-of-range {o} p r) = opens-17 c o p r
 way-number {c} (opens {o} p r) = opens-0 c o p r
 way-number {c} (reads-closed {q} p) = reads-22 c q p
-way-number {c} (reads-no-later {q} p h) = reads-20 c q p h
-way-number {c} (reads-past-the-gap {q} p h g) = reads-21 c q p h g
-way-number {c} (reads-too-much {q} p h g m) = reads-23 c q _ refl p h g m
-way-number {c} (reads {q} p h g m) = reads-0 c q _ refl p h g m
+way-number {c} (reads-another-boot {q} p b) = reads-29 c q p b
+way-number {c} (reads-no-later {q} p b h) = reads-20 c q p b h
+way-number {c} (reads-past-the-gap {q} p b h g) = reads-21 c q p b h g
+way-number {c} (reads-too-much {q} p b h g m) = reads-23 c q _ refl p b h g m
+way-number {c} (reads {q} p b h g m) = reads-0 c q _ refl p b h g m
 way-number {c} (resumes-closed {q} p) = resumes-22 c q p
 way-number {c} (resumes-no-later {q} p h) = resumes-20 c q p h
 way-number {c} (resumes {q} p h) = resumes-0 c q p h
@@ -41,13 +42,14 @@ module _ (c : Channel) where
   opens-some o false false p d = (17, opens-out-of-range p d)
   opens-some o false true p d = (0, opens p d)
 
-  reads-some : (q : Reading) (b : Bool) → isOpen c ≡ b → Dec (q .tick ≤ c .tick) → Dec (q .tick - c .tick ≤ c .gap)
+  reads-some : (q : Reading) (b : Bool) → isOpen c ≡ b → Dec (q .boot ≡ c .boot) → Dec (q .tick ≤ c .tick) → Dec (q .tick - c .tick ≤ c .gap)
       → Dec (c .total + rise c (q .status) ≤ most) → Some c (Read q)
-  reads-some q false p h g m = (22, reads-closed p)
-  reads-some q true p (yes h) g m = (20, reads-no-later p h)
-  reads-some q true p (no h) (no g) m = (21, reads-past-the-gap {q = q} p (omega arith) (omega arith))
-  reads-some q true p (no h) (yes g) (no m) = (23, reads-too-much {q = q} p (omega arith) g (omega arith))
-  reads-some q true p (no h) (yes g) (yes m) = (0, reads {q = q} p (omega arith) g m)
+  reads-some q false p d h g m = (22, reads-closed p)
+  reads-some q true p (no d) h g m = (29, reads-another-boot p d)
+  reads-some q true p (yes d) (yes h) g m = (20, reads-no-later p d h)
+  reads-some q true p (yes d) (no h) (no g) m = (21, reads-past-the-gap {q = q} p d (omega arith) (omega arith))
+  reads-some q true p (yes d) (no h) (yes g) (no m) = (23, reads-too-much {q = q} p d (omega arith) g (omega arith))
+  reads-some q true p (yes d) (no h) (yes g) (yes m) = (0, reads {q = q} p d (omega arith) g m)
 
   resumes-some : (q : Reading) (b : Bool) → isOpen c ≡ b → Dec (q .tick ≤ c .tick) → Some c (Resume q)
   resumes-some q false p h = (22, resumes-closed p)
@@ -64,7 +66,7 @@ module _ (c : Channel) where
 
   way-some : (a : Call) → Some c a
   way-some (Open o) = opens-some o (isOpen c) (inRange (o .unit) (o .gap)) refl refl
-  way-some (Read q) = reads-some q (isOpen c) refl (decLe _ _) (decLe _ _) (decLe _ _)
+  way-some (Read q) = reads-some q (isOpen c) refl (decide _ _) (decLe _ _) (decLe _ _) (decLe _ _)
   way-some (Resume q) = resumes-some q (isOpen c) refl (decLe _ _)
   way-some Close = closes-some (isOpen c) refl
   way-some Ask = asks-some (isOpen c) refl

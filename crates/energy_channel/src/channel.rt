@@ -9,7 +9,7 @@ use energy_calls::calls::Opening;
 use energy_calls::calls::Reading;
 use energy_calls::calls::count_of;
 
-// What a channel holds: whether it says that it is open, what it was opened with, tick and count of the opening, reading or
+// What a channel holds: whether it says that it is open, what it was opened with, tick, count and boot number of the opening, reading or
 // resumption accepted last, and the total since the opening.
 pub struct Channel {
     pub live: bool,
@@ -17,6 +17,7 @@ pub struct Channel {
     pub gap: u32,
     pub tick: u64,
     pub count: u32,
+    pub boot: u32,
     pub total: u64,
 }
 
@@ -45,8 +46,16 @@ fn in_range(unit: u64, gap: u32) -> bool
     gap <= 3600000
 }
 
-fn channel_of(live: bool, unit: u64, gap: u32, tick: u64, count: u32, total: u64) -> Channel
-    ensures answer { λ r. ⌜ r ≡ channelOf live unit gap tick count total ⌝ }
+fn channel_of(
+    live: bool,
+    unit: u64,
+    gap: u32,
+    tick: u64,
+    count: u32,
+    boot: u32,
+    total: u64,
+) -> Channel
+    ensures answer { λ r. ⌜ r ≡ channelOf live unit gap tick count boot total ⌝ }
 {
     Channel {
         live: live,
@@ -54,6 +63,7 @@ fn channel_of(live: bool, unit: u64, gap: u32, tick: u64, count: u32, total: u64
         gap: gap,
         tick: tick,
         count: count,
+        boot: boot,
         total: total,
     }
 }
@@ -62,7 +72,7 @@ fn channel_of(live: bool, unit: u64, gap: u32, tick: u64, count: u32, total: u64
 pub fn closed_channel() -> Channel
     ensures answer { λ r. ⌜ r ≡ closed ⌝ }
 {
-    channel_of(false, 0, 0, 0, 0, 0)
+    channel_of(false, 0, 0, 0, 0, 0, 0)
 }
 
 impl Channel {
@@ -87,12 +97,13 @@ impl Channel {
         (new + TURN - last) % TURN
     }
 
-    // The channel with the count and tick that are seen, and a total.
+    // The channel with the count, tick and boot number that are seen, and a total.
     fn noted(mut self, seen: Reading, total: u64) -> Channel
         ensures answer { λ r. ⌜ r ≡ noted self seen total ⌝ }
     {
         self.tick = seen.tick;
         self.count = count_of(seen.status);
+        self.boot = seen.boot;
         self.total = total;
         self
     }
@@ -108,7 +119,7 @@ impl Channel {
         }
     }
 
-    // Tested 22, 17. From the count and tick that are seen, and a total of 0.
+    // Tested 22, 17. From what is seen, and a total of 0.
     fn open(self, asked: Opening) -> After
         ensures answer { λ r. ⌜ told (r .answer) ≡ answerOf self (Call.Open asked) ⌝ }
         ensures kept { λ r. ⌜ r .channel ≡ leaves self (Call.Open asked) ⌝ }
@@ -120,19 +131,23 @@ impl Channel {
             let seen = asked.seen;
             let count = count_of(seen.status);
             return After {
-                channel: channel_of(true, asked.unit, asked.gap, seen.tick, count, 0),
+                channel: channel_of(true, asked.unit, asked.gap, seen.tick, count, seen.boot, 0),
                 answer: Answered::Accepted,
             };
         }
         self.refused(17)
     }
 
-    // Tested 22, 20, 21, 23. Adds the rise, and keeps the new count and tick.
+    // Tested 22, 29, 20, 21, 23. Adds the rise, and keeps the new count and tick; over a restart there is no rise to be had, since the
+    // counter began anew.
     fn read(self, seen: Reading) -> After
         ensures answer { λ r. ⌜ told (r .answer) ≡ answerOf self (Call.Read seen) ⌝ }
         ensures kept { λ r. ⌜ r .channel ≡ leaves self (Call.Read seen) ⌝ }
     {
         if self.is_open() {
+            if seen.boot != self.boot {
+                return self.refused(29);
+            }
             if seen.tick <= self.tick {
                 return self.refused(20);
             }
@@ -153,19 +168,19 @@ impl Channel {
         self.refused(22)
     }
 
-    // Tested 22, 20. Replaces count and tick, and adds nothing.
+    // Tested 22, 20. Replaces count, tick and boot number, and adds nothing.
     fn resume(self, seen: Reading) -> After
         ensures answer { λ r. ⌜ told (r .answer) ≡ answerOf self (Call.Resume seen) ⌝ }
         ensures kept { λ r. ⌜ r .channel ≡ leaves self (Call.Resume seen) ⌝ }
     {
         if self.is_open() {
-            if seen.tick <= self.tick {
-                return self.refused(20);
+            if seen.tick > self.tick {
+                return After {
+                    channel: self.noted(seen, self.total),
+                    answer: Answered::Accepted,
+                };
             }
-            return After {
-                channel: self.noted(seen, self.total),
-                answer: Answered::Accepted,
-            };
+            return self.refused(20);
         }
         self.refused(22)
     }

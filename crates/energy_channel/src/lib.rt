@@ -1,2 +1,3 @@
-// One energy channel (document 01): its record, and what each call does to it (`channel`). No call asks anything of its caller.
+// One energy channel (document 01; document 02, request 4): its record, and what each call does to it (`channel`). No call asks anything
+// of its caller.
 pub mod channel;

@@ -19,7 +19,8 @@ use words::answers::Value;
 
 fn seen_text(page: &mut [u8], at: usize, seen: Reading) -> usize {
     let tick = labelled(page, at, b" tick ", seen.tick);
-    labelled(page, tick, b" register ", seen.status)
+    let status = labelled(page, tick, b" register ", seen.status);
+    labelled(page, status, b" boot ", seen.boot as u64)
 }
 
 fn opening_text(page: &mut [u8], at: usize, n: usize, asked: Opening) -> usize {
@@ -74,50 +75,69 @@ fn run(channels: [Channel; 64], n: usize, call: Call) -> [Channel; 64] {
     after.channels
 }
 
-fn opening(unit: u64, gap: u32, tick: u64, status: u64) -> Call {
-    Call::Open(opening_of(unit, gap, tick, status))
+fn opening(unit: u64, gap: u32, tick: u64, status: u64, boot: u32) -> Call {
+    Call::Open(opening_of(unit, gap, tick, status, boot))
 }
 
-fn reading(tick: u64, status: u64) -> Call {
-    Call::Read(reading_of(tick, status))
+fn reading(tick: u64, status: u64, boot: u32) -> Call {
+    Call::Read(reading_of(tick, status, boot))
 }
 
-fn resumption(tick: u64, status: u64) -> Call {
-    Call::Resume(reading_of(tick, status))
+fn resumption(tick: u64, status: u64, boot: u32) -> Call {
+    Call::Resume(reading_of(tick, status, boot))
 }
 
-fn night() -> [Channel; 64] {
+// Two turnovers, a gap and a resumption.
+fn evening() -> [Channel; 64] {
     let c0 = hall::all_closed();
-    let c1 = run(c0, 3, opening(14, 1000, 5000, 4294967280));
-    let c2 = run(c1, 3, reading(6000, 16));
-    let c3 = run(c2, 3, reading(6001, 16));
-    let c4 = run(c3, 3, reading(6500, 15));
-    let c5 = run(c4, 3, reading(6500, 99));
-    let c6 = run(c5, 3, reading(7501, 99));
-    let c7 = run(c6, 3, resumption(90000, 5));
-    let c8 = run(c7, 3, reading(90500, 12));
-    let c9 = run(c8, 5, opening(14, 3600000, 0, 7));
-    let c10 = run(c9, 5, reading(3600000, 1007));
-    let c11 = run(c10, 64, reading(1, 0));
-    run(c11, 7, Call::Close)
+    let c1 = run(c0, 3, opening(14, 1000, 5000, 4294967280, 0));
+    let c2 = run(c1, 3, reading(6000, 16, 0));
+    let c3 = run(c2, 3, reading(6001, 16, 0));
+    let c4 = run(c3, 3, reading(6500, 15, 0));
+    let c5 = run(c4, 3, reading(6500, 99, 0));
+    let c6 = run(c5, 3, reading(7501, 99, 0));
+    let c7 = run(c6, 3, resumption(90000, 5, 0));
+    run(c7, 3, reading(90500, 12, 0))
 }
 
-// The rises of channel 3's whole count into its accepted readings: over the first turnover, none, over the second, and after the
-// resumption.
+// The machine restarts: its counter goes to 0, under boot number 1.
+fn restart(channels: [Channel; 64]) -> [Channel; 64] {
+    let c1 = run(channels, 3, reading(91000, 0, 1));
+    let c2 = run(c1, 3, reading(90500, 0, 1));
+    let c3 = run(c2, 3, resumption(91000, 0, 1));
+    run(c3, 3, reading(91500, 250, 1))
+}
+
+// Another machine, under boot number 9; a channel that is not there, and a closed one.
+fn others(channels: [Channel; 64]) -> [Channel; 64] {
+    let c1 = run(channels, 5, opening(14, 3600000, 0, 7, 9));
+    let c2 = run(c1, 5, reading(3600000, 1007, 0));
+    let c3 = run(c2, 5, reading(3600000, 1007, 9));
+    let c4 = run(c3, 64, reading(1, 0, 0));
+    run(c4, 7, Call::Close)
+}
+
+// The rises of channel 3's whole count into its accepted readings: over the first turnover, none, over the second, after the resumption,
+// and after the restart, from 0.
 fn wattmeter() -> u64 {
     let first: u64 = 4294967312 - 4294967280;
     let second: u64 = 4294967312 - 4294967312;
     let third: u64 = 8589934607 - 4294967312;
-    let last: u64 = 1099511627788 - 1099511627781;
-    first + second + third + last
+    let fourth: u64 = 1099511627788 - 1099511627781;
+    let last: u64 = 250 - 0;
+    first + second + third + fourth + last
 }
 
 // Gap limit 1,000 and last tick 5,000: 6,001 and 5,000 are refused, 6,000 is not. ENERGY is bits 31:0; TIME, bits 63:32, is not counted.
 fn bench(channels: [Channel; 64]) -> [Channel; 64] {
-    let c1 = run(channels, 8, opening(14, 1000, 5000, 0x0000_0001_FFFF_FFF0));
-    let c2 = run(c1, 8, reading(6001, 0x0000_0002_0000_0010));
-    let c3 = run(c2, 8, reading(5000, 0x0000_0002_0000_0010));
-    let c4 = run(c3, 8, reading(6000, 0x0000_0002_0000_0010));
+    let c1 = run(
+        channels,
+        8,
+        opening(14, 1000, 5000, 0x0000_0001_FFFF_FFF0, 0),
+    );
+    let c2 = run(c1, 8, reading(6001, 0x0000_0002_0000_0010, 0));
+    let c3 = run(c2, 8, reading(5000, 0x0000_0002_0000_0010, 0));
+    let c4 = run(c3, 8, reading(6000, 0x0000_0002_0000_0010, 0));
     run(c4, 8, Call::Ask)
 }
 
@@ -130,11 +150,11 @@ fn hall_total(channels: [Channel; 64], unit: u64) {
 }
 
 fn main() {
-    let c12 = night();
-    let c13 = run(c12, 3, Call::Ask);
+    let night = others(restart(evening()));
+    let asked = run(night, 3, Call::Ask);
     line(b"wattmeter ", 3, Answered::Total(wattmeter()));
-    let c14 = run(c13, 5, Call::Ask);
-    hall_total(c14, 14);
-    hall_total(bench(c14), 14);
-    hall_total(c14, 32);
+    let c = run(asked, 5, Call::Ask);
+    hall_total(c, 14);
+    hall_total(bench(c), 14);
+    hall_total(c, 32);
 }

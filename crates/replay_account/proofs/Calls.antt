@@ -1,9 +1,9 @@
--- How a replay stands at its end, and the bytes of calls that records say, replayed.
+-- How a replay stands at its end, and records that say calls, replayed.
 -- Assumes nothing.
 use Prim.Native.Nat.{ℕ, zero, suc, _+_, _≤_}
 use mathlib.Core.Path.{_≡_, refl, sym, ap, subst, _∙_}
 use mathlib.Core.Bool.{true, false}
-use mathlib.Core.List.{List, [], _∷_, _++_}
+use mathlib.Core.List.{List, [], _∷_, _++_, flatten}
 use native.Mathlib.Omega.{arith}
 use lib.ListN.{length, length-append}
 use borrow.Author.Tests.{le-ltb}
@@ -15,12 +15,11 @@ use Rattle.records.proofs.Cuts.{ran-append}
 use Rattle.records.proofs.PartialLaws.{cannot-stopped, stopped-said, stopped-place, stopped-held}
 use Rattle.records.proofs.Theorems.{reads, end-fact}
 use Rattle.records.specs.declared.partial.Partial.{Partial}
-use Rattle.replay_trace.specs.Trace.{lengths, Says, says, bytesOf}
-use Rattle.replay_trace.specs.Facts.{Sayable}
-use Rattle.replay_trace.proofs.Theorems.{call-trips}
+use Rattle.replay_trace.specs.Trace.{lengths, Says, says, saysOf}
+use Rattle.replay_trace.proofs.Theorems.{call-trips, record-trips}
 use Rattle.replay_steps.specs.Steps.{mostBytes, rule, Replied, actsOn, acts, fed, replayed, Told, nothing-yet, stops, stand, stepBy, endOf}
-use Rattle.replay_account.specs.Replay.{callsIn, answersIn, traceOf, AllSayable}
-use Rattle.replay_account.specs.Facts.{CallsReplayed, CallsFact}
+use Rattle.replay_account.specs.Replay.{callsIn, answersIn, Say}
+use Rattle.replay_account.specs.Facts.{CallsReplayed, CallsFact, WrittenSay, OldRecords}
 use Rattle.energy_channel.specs.declared.channel.Channel.{Channel}
 
 -- ---- how it stands
@@ -73,37 +72,49 @@ replies-answers cs (x ∷ xs) =
     ap (λ (l : List Answer). answerOn cs (x .channel) (x .call) ∷ l) (replies-answers (leavesOn cs (x .channel) (x .call)) xs)
 
 -- one record
-pub one-call : (cs : List Channel) (place : ℕ) (x : Named) → Sayable x → place + length (bytesOf x) ≤ mostBytes
-    → replayed (reader cs (begun place)) (bytesOf x) ≡ moved (actsOn cs (says x)) place (length (bytesOf x))
+pub one-call : (cs : List Channel) (place : ℕ) (r : List ℕ) (x : Named) → saysOf r ≡ says x → place + length r ≤ mostBytes
+    → replayed (reader cs (begun place)) r ≡ moved (actsOn cs (says x)) place (length r)
 unfolding acts
-one-call cs place x s l =
-    reads rule acts .whole cs place (bytesOf x) (call-trips x .whole s mostBytes) l
-    ∙ ap (λ (m : Says). moved (actsOn cs m) place (length (bytesOf x))) (call-trips x .read s)
+one-call cs place r x s l =
+    reads rule acts .whole cs place r (record-trips r .whole mostBytes .1 (x, s)) l
+    ∙ ap (λ (m : Says). moved (actsOn cs m) place (length r)) s
 
-pub replay-calls : (cs : List Channel) (place : ℕ) (xs : List Named) → AllSayable xs → place + length (traceOf xs) ≤ mostBytes
-    → replayed (reader cs (begun place)) (traceOf xs)
-    ≡ record { state = reader (leavesAll cs xs) (begun (place + length (traceOf xs))); answers = replies cs xs }
-unfolding ran
-replay-calls cs place [] s l = ap (λ (n : ℕ). record { state = reader cs (begun n); answers = [] }) (omega arith)
-replay-calls cs place (x ∷ xs) s l =
-    let n = length (bytesOf x) in
-    let both : length (bytesOf x ++ traceOf xs) ≡ n + length (traceOf xs) = length-append (bytesOf x) (traceOf xs) in
+pub replay-calls : (cs : List Channel) (place : ℕ) (xs : List Named) (rs : List (List ℕ)) → Say rs xs → place + length (flatten rs) ≤ mostBytes
+    → replayed (reader cs (begun place)) (flatten rs)
+    ≡ record { state = reader (leavesAll cs xs) (begun (place + length (flatten rs))); answers = replies cs xs }
+unfolding ran flatten
+replay-calls cs place [] [] s l = ap (λ (n : ℕ). record { state = reader cs (begun n); answers = [] }) (omega arith)
+replay-calls cs place [] (r ∷ rs) s l = absurd s
+replay-calls cs place (x ∷ xs) [] s l = absurd s
+replay-calls cs place (x ∷ xs) (r ∷ rs) s l =
+    let n = length r in
+    let both : length (r ++ flatten rs) ≡ n + length (flatten rs) = length-append r (flatten rs) in
     let left = leavesOn cs (x .channel) (x .call) in
     let first : place + n ≤ mostBytes = omega (arith, l, both) in
-    let later : place + n + length (traceOf xs) ≤ mostBytes = omega (arith, l, both) in
-    let end : place + n + length (traceOf xs) ≡ place + length (bytesOf x ++ traceOf xs) = omega (arith, both) in
-    ran-append fed (reader cs (begun place)) (bytesOf x) (traceOf xs)
-    ∙ ap (λ (d : Done (Reader (List Channel)) Replied). andThen d (replayed (d .state) (traceOf xs))) (one-call cs place x (s .0) first)
-    ∙ ap (andThen (moved (actsOn cs (says x)) place n)) (replay-calls left (place + n) xs (s .1) later)
+    let later : place + n + length (flatten rs) ≤ mostBytes = omega (arith, l, both) in
+    let end : place + n + length (flatten rs) ≡ place + length (r ++ flatten rs) = omega (arith, both) in
+    ran-append fed (reader cs (begun place)) r (flatten rs)
+    ∙ ap (λ (d : Done (Reader (List Channel)) Replied). andThen d (replayed (d .state) (flatten rs))) (one-call cs place r x (s .0) first)
+    ∙ ap (andThen (moved (actsOn cs (says x)) place n)) (replay-calls left (place + n) xs rs (s .1) later)
     ∙ ap (λ (k : ℕ). record { state = reader (leavesAll left xs) (begun k); answers = replies cs (x ∷ xs) }) end
 
+pub written-say : WrittenSay
+written-say [] s = tt
+written-say (x ∷ xs) s = (call-trips x .read (s .0), written-say xs (s .1))
+
+pub old-records : OldRecords
+old-records [] [] s o = tt
+old-records [] (x ∷ xs) s o = absurd s
+old-records (r ∷ rs) [] s o = absurd s
+old-records (r ∷ rs) (x ∷ xs) s o = (record-trips r .old (o .0) x (s .0), old-records rs xs (s .1) (o .1))
+
 pub calls-fact : CallsFact
-calls-fact cs place xs ps s e l =
-    subst (CallsReplayed cs place xs)
-    (sym (reads rule acts .cuts (reader cs (begun place)) ps ∙ ap (replayed (reader cs (begun place))) e ∙ replay-calls cs place xs s l))
+calls-fact cs place xs rs ps s e l =
+    subst (CallsReplayed cs place (length (flatten rs)) xs)
+    (sym (reads rule acts .cuts (reader cs (begun place)) ps ∙ ap (replayed (reader cs (begun place))) e ∙ replay-calls cs place xs rs s l))
     (record {
       made = replies-calls cs xs;
       answers = replies-answers cs xs;
       leaves = refl;
-      ends = good-end (leavesAll cs xs) (place + length (traceOf xs)) l;
+      ends = good-end (leavesAll cs xs) (place + length (flatten rs)) l;
     })

@@ -1,25 +1,22 @@
 -- Any bytes are records in front and a rest from which none can be read, in one way only.
 -- Assumes nothing.
 use Prim.Native.Nat.{ℕ, zero, suc, _+_, _≤_, _<_}
-use mathlib.Core.Path.{_≡_, refl, sym, ap, subst, _∙_}
+use mathlib.Core.Path.{_≡_, refl, sym, ap, ap₂, subst, _∙_}
 use mathlib.Core.Logic.{inl, inr}
 use mathlib.Core.Bool.{Bool, true, false}
-use mathlib.Core.List.{List, [], _∷_, _++_, append-assoc}
+use mathlib.Core.List.{List, [], _∷_, _++_, append-assoc, flatten}
 use native.Mathlib.Omega.{arith}
-use lib.ListN.{length, take, drop, length-append, length-drop, take-append-drop}
-use lib.Seq.{getD-take, length-take-le, drop-append-seam}
+use lib.ListN.{length, getD, take, drop, length-append, length-drop, take-append-drop}
+use lib.Seq.{getD-take, length-take-le, take-at, drop-at}
 use lib.Dec.{ltb, eqb}
 use borrow.Author.Tests.{ltb-true, ltb-false, eqb-true, eqb-false}
-use Rattle.words.specs.Bytes.{AllBytes}
-use Rattle.words.proofs.ByteLaws.{bytes-take, bytes-drop}
 use Rattle.energy_hall.specs.Hall.{Named, allClosed}
 use Rattle.records.specs.Partial.{ruleOf, lengthOf}
 use Rattle.records.specs.Facts.{IsRecord}
-use Rattle.replay_trace.specs.Trace.{lengths, bytesOf}
-use Rattle.replay_trace.specs.Facts.{Sayable}
+use Rattle.replay_trace.specs.Trace.{lengths, says, saysOf}
 use Rattle.replay_trace.proofs.Theorems.{record-trips}
 use Rattle.replay_steps.specs.Steps.{mostBytes}
-use Rattle.replay_account.specs.Replay.{traceOf, Rest, Split}
+use Rattle.replay_account.specs.Replay.{Say, Rest, Split}
 use Rattle.replay_account.specs.Facts.{SplitFact, SplitOnce}
 use Rattle.replay_account.proofs.Traces.{trace-replayed}
 
@@ -27,38 +24,42 @@ use Rattle.replay_account.proofs.Traces.{trace-replayed}
 
 -- all of it is rest
 all-rest : (place : ℕ) (xs : List ℕ) → Rest place xs → Split place xs
+unfolding flatten
 all-rest place xs none =
     record {
       front = [];
+      records = [];
       rest = xs;
       split = refl;
-      sayable = tt;
+      say = tt;
       fits = λ m. omega (arith, m);
       none = subst (λ (n : ℕ). Rest n xs) (omega arith) none;
     }
 
 -- a record in front
-one-more : (place : ℕ) (x : Named) → Sayable x → (ys : List ℕ) → place + length (bytesOf x) ≤ mostBytes
-    → Split (place + length (bytesOf x)) ys → Split place (bytesOf x ++ ys)
-one-more place x said ys l s =
-    let moving : place + length (bytesOf x) + length (traceOf (s .front)) ≡ place + length (bytesOf x ++ traceOf (s .front)) =
-    omega (arith, length-append (bytesOf x) (traceOf (s .front))) in
+one-more : (place : ℕ) (r : List ℕ) (x : Named) → saysOf r ≡ says x → (ys : List ℕ) → place + length r ≤ mostBytes
+    → Split (place + length r) ys → Split place (r ++ ys)
+unfolding flatten
+one-more place r x said ys l s =
+    let moving : place + length r + length (flatten (s .records)) ≡ place + length (r ++ flatten (s .records)) =
+    omega (arith, length-append r (flatten (s .records))) in
     record {
       front = x ∷ s .front;
+      records = r ∷ s .records;
       rest = s .rest;
-      split = ap (λ (r : List ℕ). bytesOf x ++ r) (s .split) ∙ sym (append-assoc (bytesOf x) (traceOf (s .front)) (s .rest));
-      sayable = (said, s .sayable);
+      split = ap (λ (q : List ℕ). r ++ q) (s .split) ∙ sym (append-assoc r (flatten (s .records)) (s .rest));
+      say = (said, s .say);
       fits = λ m. subst (λ (n : ℕ). n ≤ mostBytes) moving (s .fits l);
       none = subst (λ (n : ℕ). Rest n (s .rest)) moving (s .none);
     }
 
 -- of bytes that are no more than n
 abbrev Any : ℕ → Type 0
-Any n = (place : ℕ) (xs : List ℕ) → length xs ≤ n → AllBytes xs → Split place xs
+Any n = (place : ℕ) (xs : List ℕ) → length xs ≤ n → Split place xs
 
 turn : (n : ℕ) → Any n → Any (suc n)
-turn n again place [] l b = all-rest place [] tt
-turn n again place (k ∷ zs) l b = go (eqb many 0) refl (ltb mostBytes (place + many)) refl (ltb (length xs) many) refl
+turn n again place [] l = all-rest place [] tt
+turn n again place (k ∷ zs) l = go (eqb many 0) refl (ltb mostBytes (place + many)) refl (ltb (length xs) many) refl
   where
     xs : List ℕ
     xs = k ∷ zs
@@ -74,13 +75,9 @@ turn n again place (k ∷ zs) l b = go (eqb many 0) refl (ltb mostBytes (place +
         let is : IsRecord (ruleOf lengths mostBytes) r =
         record { some = omega (arith, long, some); long = ap (lengthOf lengths) (getD-take many xs 0 0 some) ∙ sym long } in
         let x = record-trips r .whole mostBytes .0 is in
-        let back = record-trips r .back (bytes-take many xs b) (x .0) (x .1) in
-        let size : length (bytesOf (x .0)) ≡ many = ap length (back .0) ∙ long in
-        let fit : place + length (bytesOf (x .0)) ≤ mostBytes = omega (arith, size, fits) in
+        let fit : place + length r ≤ mostBytes = omega (arith, long, fits) in
         let shorter : length ys ≤ n = omega (arith, length-drop many xs, l, some) in
-        subst (Split place)
-        (ap (λ (q : List ℕ). q ++ ys) (back .0) ∙ take-append-drop many xs)
-        (one-more place (x .0) (back .1) ys fit (again (place + length (bytesOf (x .0))) ys shorter (bytes-drop many xs b)))
+        subst (Split place) (take-append-drop many xs) (one-more place r (x .0) (x .1) ys fit (again (place + length r) ys shorter))
 
     pos : (j : ℕ) → (j ≡ 0 → ⊥) → 0 < j
     pos zero e = absurd (e refl)
@@ -93,18 +90,43 @@ turn n again place (k ∷ zs) l b = go (eqb many 0) refl (ltb mostBytes (place +
     go false e false f false g = whole (pos many (eqb-false _ _ e)) (ltb-false _ _ f) (ltb-false _ _ g)
 
 any : (n : ℕ) → Any n
-any zero place [] l b = all-rest place [] tt
-any zero place (k ∷ zs) l b = absurd (omega (arith, l))
-any (suc n) place xs l b = turn n (any n) place xs l b
+any zero place [] l = all-rest place [] tt
+any zero place (k ∷ zs) l = absurd (omega (arith, l))
+any (suc n) place xs l = turn n (any n) place xs l
 
 pub split-fact : SplitFact
-split-fact place xs b = any (length xs) place xs (omega arith) b
+split-fact place xs = any (length xs) place xs (omega arith)
 
--- ---- and no other: the replay of both makes the same calls
+-- ---- and no other: the replay of both makes the same calls, and a record's kind has its length
+
+first-byte : (r ys : List ℕ) → 0 < length r → getD (r ++ ys) 0 0 ≡ getD r 0 0
+first-byte [] ys h = absurd (omega (arith, h))
+first-byte (y ∷ r) ys h = refl
+
+-- two cuts of the same bytes into records that say the same calls
+same-cut : (xs : List Named) (rs qs : List (List ℕ)) (u v : List ℕ) → Say rs xs → Say qs xs → flatten rs ++ u ≡ flatten qs ++ v
+    → (rs ≡ qs) × (u ≡ v)
+unfolding flatten
+same-cut [] [] [] u v a b e = (refl, e)
+same-cut [] [] (q ∷ qs) u v a b e = absurd b
+same-cut [] (r ∷ rs) qs u v a b e = absurd a
+same-cut (x ∷ xs) [] qs u v a b e = absurd a
+same-cut (x ∷ xs) (r ∷ rs) [] u v a b e = absurd b
+same-cut (x ∷ xs) (r ∷ rs) (q ∷ qs) u v a b e =
+    let i = record-trips r .whole mostBytes .1 (x, a .0) in
+    let j = record-trips q .whole mostBytes .1 (x, b .0) in
+    let ys = flatten rs ++ u in
+    let zs = flatten qs ++ v in
+    let f : r ++ ys ≡ q ++ zs = sym (append-assoc r (flatten rs) u) ∙ e ∙ append-assoc q (flatten qs) v in
+    let kind : getD r 0 0 ≡ getD q 0 0 = sym (first-byte r ys (i .some)) ∙ ap (λ (l : List ℕ). getD l 0 0) f ∙ first-byte q zs (j .some) in
+    let many : length r ≡ length q = sym (i .long) ∙ ap (lengthOf lengths) kind ∙ j .long in
+    let here : r ≡ q = sym (take-at r ys (length r) refl) ∙ ap (take (length r)) f ∙ take-at q zs (length r) (sym many) in
+    let later : ys ≡ zs = sym (drop-at r ys (length r) refl) ∙ ap (drop (length r)) f ∙ drop-at q zs (length r) (sym many) in
+    let again = same-cut xs rs qs u v (a .1) (b .1) later in
+    (ap₂ (λ (h : List ℕ) (t : List (List ℕ)). h ∷ t) here (again .0), again .1)
 
 pub split-once : SplitOnce
 split-once place xs m s t =
     let e : s .front ≡ t .front = sym (trace-replayed allClosed place m s .made) ∙ trace-replayed allClosed place m t .made in
-    let after : (v : Split place xs) → drop (length (traceOf (v .front))) xs ≡ v .rest =
-    λ v. ap (drop (length (traceOf (v .front)))) (v .split) ∙ drop-append-seam (traceOf (v .front)) (v .rest) in
-    (e, sym (after s) ∙ ap (λ (l : List Named). drop (length (traceOf l)) xs) e ∙ after t)
+    let p = same-cut (t .front) (s .records) (t .records) (s .rest) (t .rest) (subst (Say (s .records)) e (s .say)) (t .say) (sym (s .split) ∙ t .split) in
+    (e, p .0, p .1)

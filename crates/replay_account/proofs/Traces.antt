@@ -4,7 +4,7 @@ use Prim.Native.Nat.{ℕ, _+_, _-_, _≤_, _<_}
 use mathlib.Core.Path.{_≡_, refl, sym, ap, subst, _∙_}
 use mathlib.Core.Logic.{inl, inr}
 use mathlib.Core.Bool.{Bool, true, false}
-use mathlib.Core.List.{List, [], _∷_, _++_, append-nil}
+use mathlib.Core.List.{List, [], _∷_, _++_, append-nil, flatten}
 use native.Mathlib.Omega.{arith}
 use lib.ListN.{length, replicate, length-append, length-replicate}
 use lib.Dec.{ltb, eqb}
@@ -19,7 +19,7 @@ use Rattle.records.proofs.Theorems.{reads, end-fact}
 use Rattle.records.specs.declared.partial.Partial.{Partial}
 use Rattle.replay_trace.specs.Trace.{lengths}
 use Rattle.replay_steps.specs.Steps.{mostBytes, rule, Replied, acts, fed, replayed, Told, nothing-yet, stops, stand, Step, stepBy, endOf}
-use Rattle.replay_account.specs.Replay.{callsIn, answersIn, traceOf, Rest, Split, showsAt, endsAt}
+use Rattle.replay_account.specs.Replay.{callsIn, answersIn, Rest, Split, showsAt, endsAt}
 use Rattle.replay_account.specs.Facts.{TraceReplayed, TraceFact}
 use Rattle.replay_account.proofs.Calls.{stops-halted, stands-free, begun-stands, good-end, replies, replies-calls, replies-answers, replay-calls}
 use Rattle.energy_channel.specs.declared.channel.Channel.{Channel}
@@ -111,15 +111,15 @@ module _ (cs : List Channel) (place : ℕ) {xs : List ℕ} (m : place ≤ mostBy
   left = leavesAll cs (s .front)
 
   abbrev next : ℕ
-  next = place + length (traceOf (s .front))
+  next = place + length (flatten (s .records))
 
   two : replayed (reader cs (begun place)) xs
       ≡ andThen (record { state = reader left (begun next); answers = replies cs (s .front) }) (replayed (reader left (begun next)) (s .rest))
   two =
       ap (replayed (reader cs (begun place))) (s .split)
-      ∙ ran-append fed (reader cs (begun place)) (traceOf (s .front)) (s .rest)
+      ∙ ran-append fed (reader cs (begun place)) (flatten (s .records)) (s .rest)
       ∙ ap (λ (d : Done (Reader (List Channel)) Replied). andThen d (replayed (d .state) (s .rest)))
-      (replay-calls cs place (s .front) (s .sayable) (s .fits m))
+      (replay-calls cs place (s .front) (s .records) (s .say) (s .fits m))
 
   pub trace-replayed : TraceReplayed cs place s (replayed (reader cs (begun place)) xs)
   trace-replayed =

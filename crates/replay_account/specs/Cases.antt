@@ -1,4 +1,4 @@
--- Worked cases of a replay (document 02, request 1), at the bounds of what its rules say.
+-- Worked cases of a replay (document 02, requests 1 and 4), at the bounds of what its rules say.
 --   Came h xs t   a step on the bytes xs from the state h comes to t
 --   Ends h t      the end declared at the state h comes to t
 --   largest, tooLarge   as large a call as a record says, and one too large
@@ -42,14 +42,15 @@ abbrev holdingByte : ℕ → Reader (List Channel)
 holdingByte b = reader allClosed (record { place = 7; held = 1; bytes = b ∷ replicate 31 0; stopped = false })
 
 abbrev pub largest : Call
-largest = Open (openingOf 255 (2 ^ 32 - 1) (2 ^ 64 - 1) (2 ^ 64 - 1))
+largest = Open (openingOf 255 (2 ^ 32 - 1) (2 ^ 64 - 1) (2 ^ 64 - 1) (2 ^ 32 - 1))
 
 abbrev pub tooLarge : Call
-tooLarge = Open (openingOf 256 1 0 0)
+tooLarge = Open (openingOf 256 1 0 0 0)
 
 pub record CasesFact : Type 0 where
-  -- an unknown kind stops as soon as it is seen, before the end is declared; kind 0 is one
+  -- an unknown kind stops as soon as it is seen, before the end is declared; kinds 0 and 8 are such
   pub unknown : Came begins (9 ∷ []) (stops 0)
+  pub kind-8 : Came begins (8 ∷ []) (stops 0)
   pub kind-0 : Came (from 5) (0 ∷ []) (stops 5)
   -- a record that ends at 2^53 - 1 is done, and the state after it is good; one byte later it is stopped at its start
   pub at-the-limit : Came (from (2 ^ 53 - 3)) (4 ∷ 0 ∷ []) (replied (record { said = callOn 0 Close; answer = refused 22 }))
@@ -70,16 +71,31 @@ pub record CasesFact : Type 0 where
   pub held-whole : Came (reader allClosed (record { place = 7; held = 2; bytes = 4 ∷ 0 ∷ replicate 30 0; stopped = false })) (0 ∷ []) (stops 7)
   pub held-late : Ends (reader allClosed (record { place = 2 ^ 53 - 2; held = 1; bytes = 4 ∷ replicate 31 0; stopped = false })) (stops (2 ^ 53 - 2))
   -- a channel's record that says open, out of its ranges, counts as closed
-  pub out-of-range : Came (reader (channelOf true 14 0 5 6 7 ∷ replicate 63 closed) (begun 0)) (4 ∷ 0 ∷ []) (replied (record { said = callOn 0 Close; answer = refused 22 }))
+  pub out-of-range : Came (reader (channelOf true 14 0 5 6 0 7 ∷ replicate 63 closed) (begun 0)) (4 ∷ 0 ∷ []) (replied (record { said = callOn 0 Close; answer = refused 22 }))
   -- the bytes of each kind, lowest byte first
   pub opens : saysOf (1 ∷ 3 ∷ 14 ∷ 232 ∷ 3 ∷ 0 ∷ 0 ∷ 136 ∷ 19 ∷ 0 ∷ 0 ∷ 0 ∷ 0 ∷ 0 ∷ 0 ∷ 240 ∷ 255 ∷ 255 ∷ 255 ∷ 0 ∷ 0 ∷ 0 ∷ 1 ∷ [])
-      ≡ says (callOn 3 (Open (openingOf 14 1000 5000 (2 ^ 56 + 2 ^ 32 - 16))))
-  pub reads : saysOf (2 ∷ 3 ∷ 112 ∷ 23 ∷ 0 ∷ 0 ∷ 0 ∷ 0 ∷ 0 ∷ 0 ∷ 16 ∷ 0 ∷ 0 ∷ 0 ∷ 0 ∷ 0 ∷ 0 ∷ 2 ∷ []) ≡ says (callOn 3 (Read (readingOf 6000 (2 ^ 57 + 16))))
-  pub resumes : saysOf (3 ∷ 63 ∷ 144 ∷ 95 ∷ 1 ∷ 0 ∷ 0 ∷ 0 ∷ 0 ∷ 0 ∷ 5 ∷ 0 ∷ 0 ∷ 0 ∷ 0 ∷ 0 ∷ 0 ∷ 0 ∷ []) ≡ says (callOn 63 (Resume (readingOf 90000 5)))
+      ≡ says (callOn 3 (Open (openingOf 14 1000 5000 (2 ^ 56 + 2 ^ 32 - 16) 0)))
+  pub reads : saysOf (2 ∷ 3 ∷ 112 ∷ 23 ∷ 0 ∷ 0 ∷ 0 ∷ 0 ∷ 0 ∷ 0 ∷ 16 ∷ 0 ∷ 0 ∷ 0 ∷ 0 ∷ 0 ∷ 0 ∷ 2 ∷ []) ≡ says (callOn 3 (Read (readingOf 6000 (2 ^ 57 + 16) 0)))
+  pub resumes : saysOf (3 ∷ 63 ∷ 144 ∷ 95 ∷ 1 ∷ 0 ∷ 0 ∷ 0 ∷ 0 ∷ 0 ∷ 5 ∷ 0 ∷ 0 ∷ 0 ∷ 0 ∷ 0 ∷ 0 ∷ 0 ∷ []) ≡ says (callOn 63 (Resume (readingOf 90000 5 0)))
   pub closes : saysOf (4 ∷ 255 ∷ []) ≡ says (callOn 255 Close)
+  -- and of the new ones, the boot number at their end
+  pub opens-booted : saysOf (5 ∷ 3 ∷ 14 ∷ 232 ∷ 3 ∷ 0 ∷ 0 ∷ 136 ∷ 19 ∷ 0 ∷ 0 ∷ 0 ∷ 0 ∷ 0 ∷ 0 ∷ 240 ∷ 255 ∷ 255 ∷ 255 ∷ 0 ∷ 0 ∷ 0 ∷ 1 ∷ 9 ∷ 0 ∷ 0 ∷ 128 ∷ [])
+      ≡ says (callOn 3 (Open (openingOf 14 1000 5000 (2 ^ 56 + 2 ^ 32 - 16) (2 ^ 31 + 9))))
+  pub reads-booted : saysOf (6 ∷ 3 ∷ 112 ∷ 23 ∷ 0 ∷ 0 ∷ 0 ∷ 0 ∷ 0 ∷ 0 ∷ 16 ∷ 0 ∷ 0 ∷ 0 ∷ 0 ∷ 0 ∷ 0 ∷ 2 ∷ 9 ∷ 0 ∷ 0 ∷ 128 ∷ [])
+      ≡ says (callOn 3 (Read (readingOf 6000 (2 ^ 57 + 16) (2 ^ 31 + 9))))
+  pub resumes-booted : saysOf (7 ∷ 63 ∷ 144 ∷ 95 ∷ 1 ∷ 0 ∷ 0 ∷ 0 ∷ 0 ∷ 0 ∷ 5 ∷ 0 ∷ 0 ∷ 0 ∷ 0 ∷ 0 ∷ 0 ∷ 0 ∷ 9 ∷ 0 ∷ 0 ∷ 128 ∷ [])
+      ≡ says (callOn 63 (Resume (readingOf 90000 5 (2 ^ 31 + 9))))
+  -- boot number 0 is said by both, and written in the shorter one
+  pub reads-boot-0 : saysOf (6 ∷ 3 ∷ 112 ∷ 23 ∷ 0 ∷ 0 ∷ 0 ∷ 0 ∷ 0 ∷ 0 ∷ 16 ∷ 0 ∷ 0 ∷ 0 ∷ 0 ∷ 0 ∷ 0 ∷ 2 ∷ 0 ∷ 0 ∷ 0 ∷ 0 ∷ [])
+      ≡ says (callOn 3 (Read (readingOf 6000 (2 ^ 57 + 16) 0)))
+  pub shortest : bytesOf (callOn 3 (Read (readingOf 6000 (2 ^ 57 + 16) 0))) ≡ 2 ∷ 3 ∷ 112 ∷ 23 ∷ 0 ∷ 0 ∷ 0 ∷ 0 ∷ 0 ∷ 0 ∷ 16 ∷ 0 ∷ 0 ∷ 0 ∷ 0 ∷ 0 ∷ 0 ∷ 2 ∷ []
+  -- a record of an old kind means boot number 0: on a channel opened with boot number 9 it is refused
+  pub old-kind : Came (reader (channelOf true 14 1000 5000 0 9 0 ∷ replicate 63 closed) (begun 0))
+      (2 ∷ 0 ∷ 112 ∷ 23 ∷ 0 ∷ 0 ∷ 0 ∷ 0 ∷ 0 ∷ 0 ∷ 16 ∷ 0 ∷ 0 ∷ 0 ∷ 0 ∷ 0 ∷ 0 ∷ 0 ∷ [])
+      (replied (record { said = callOn 0 (Read (readingOf 6000 16 0)); answer = refused 29 }))
   -- the bounds of what records say
   pub sayable : Sayable (callOn 255 largest)
-  pub all-ones : bytesOf (callOn 255 largest) ≡ 1 ∷ replicate 22 255
+  pub all-ones : bytesOf (callOn 255 largest) ≡ 5 ∷ replicate 26 255
   pub unit-too-large : unsaid (callOn 255 tooLarge) ≡ true
   pub channel-too-large : unsaid (callOn 256 Close) ≡ true
 

@@ -9,9 +9,9 @@ use mathlib.Core.List.{List, [], _∷_, _++_, flatten}
 use lib.ListN.{length, getD}
 use lib.Dec.{ltb}
 use Rattle.words.specs.Answers.{gives, unless, first}
-use Rattle.words.specs.Bytes.{AllBytes}
 use Rattle.energy_channel.specs.Channel.{closed, isOpen}
-use Rattle.energy_hall.specs.Hall.{Named, allClosed, answerOn, answersTo, leavesAll, hallTotal}
+use Rattle.energy_calls.specs.Calls.{Carries}
+use Rattle.energy_hall.specs.Hall.{Named, Each, allClosed, answerOn, answersTo, leavesAll, hallTotal}
 use Rattle.energy_account.specs.Account.{Event, calls, shut, account, Supposed, due, parts}
 use Rattle.energy_account.specs.Facts.{history}
 use Rattle.records.specs.Partial.{begun}
@@ -19,7 +19,7 @@ use Rattle.records.specs.Machine.{Done, inPieces, Reader, reader}
 use Rattle.records.specs.Facts.{Reads}
 use Rattle.replay_trace.specs.Trace.{callOn}
 use Rattle.replay_steps.specs.Steps.{mostBytes, rule, acts, fed, replayed, begins, Replied, nothing-yet, stand, endOf}
-use Rattle.replay_account.specs.Replay.{callsIn, answersIn, traceOf, AllSayable, Split, showsAt, endsAt, stepping}
+use Rattle.replay_account.specs.Replay.{callsIn, answersIn, Say, AllOld, recordsOf, AllSayable, Split, showsAt, endsAt, stepping}
 use Rattle.energy_calls.specs.declared.calls.Call.the-variants.{Close, Ask}
 use Rattle.energy_channel.specs.declared.channel.Channel.{Channel}
 
@@ -37,25 +37,34 @@ pub record Faithful (h : Reader (List Channel)) (xs : List ℕ) : Type 0 where
   pub answers : answersIn (replayed h xs .answers) ≡ answersTo (h .content) (callsIn (replayed h xs .answers))
   pub channels : replayed h xs .state .content ≡ leavesAll (h .content) (callsIn (replayed h xs .answers))
 
--- The bytes of any calls that records say, in any cuts, from any channels and place: the replay makes these calls, answers what they answer
--- one by one and leaves what they leave; and it ends well.
-pub record CallsReplayed (cs : List Channel) (place : ℕ) (xs : List Named) (d : Done (Reader (List Channel)) Replied) : Type 0 where
+-- The bytes of any records that say calls, in any cuts, from any channels and place: the replay makes these calls, answers what they answer
+-- one by one and leaves what they leave; and it ends well, so many bytes on.
+pub record CallsReplayed (cs : List Channel) (place many : ℕ) (xs : List Named) (d : Done (Reader (List Channel)) Replied) : Type 0 where
   pub made : callsIn (d .answers) ≡ xs
   pub answers : answersIn (d .answers) ≡ answersTo cs xs
-  pub leaves : d .state ≡ reader (leavesAll cs xs) (begun (place + length (traceOf xs)))
+  pub leaves : d .state ≡ reader (leavesAll cs xs) (begun (place + many))
   pub ends : endOf (d .state) ≡ record { state = d .state; used = 0; outcome = nothing-yet }
 
 abbrev pub CallsFact : Type 0
-CallsFact = (cs : List Channel) (place : ℕ) (xs : List Named) (ps : List (List ℕ)) → AllSayable xs → flatten ps ≡ traceOf xs
-    → place + length (traceOf xs) ≤ mostBytes → CallsReplayed cs place xs (inPieces fed (reader cs (begun place)) ps)
+CallsFact = (cs : List Channel) (place : ℕ) (xs : List Named) (rs ps : List (List ℕ)) → Say rs xs → flatten ps ≡ flatten rs
+    → place + length (flatten rs) ≤ mostBytes → CallsReplayed cs place (length (flatten rs)) xs (inPieces fed (reader cs (begun place)) ps)
+
+-- Such are the records that a writer makes of calls that records say.
+abbrev pub WrittenSay : Type 0
+WrittenSay = (xs : List Named) → AllSayable xs → Say (recordsOf xs) xs
+
+-- Records of the old kinds, 1 to 4, say calls that carry boot number 0, if they carry one: so `OneBoot` of energy_account holds of them.
+abbrev pub OldRecords : Type 0
+OldRecords = (rs : List (List ℕ)) (xs : List Named) → Say rs xs → AllOld rs → Each (Carries 0) xs
 
 -- Any bytes are records in front and a rest from which none can be read,
 abbrev pub SplitFact : Type 0
-SplitFact = (place : ℕ) (xs : List ℕ) → AllBytes xs → Split place xs
+SplitFact = (place : ℕ) (xs : List ℕ) → Split place xs
 
 -- and in one way only.
 abbrev pub SplitOnce : Type 0
-SplitOnce = (place : ℕ) (xs : List ℕ) → place ≤ mostBytes → (s t : Split place xs) → (s .front ≡ t .front) × (s .rest ≡ t .rest)
+SplitOnce = (place : ℕ) (xs : List ℕ) → place ≤ mostBytes → (s t : Split place xs)
+    → (s .front ≡ t .front) × (s .records ≡ t .records) × (s .rest ≡ t .rest)
 
 -- The replay makes the calls of the records in front, answers what they answer and leaves what they leave, whatever the rest is. It stands
 -- stopped as soon as the rest shows a kind of which no record can come, and when the end is declared it is stopped exactly if there is a rest, at
@@ -64,8 +73,8 @@ pub record TraceReplayed (cs : List Channel) (place : ℕ) {xs : List ℕ} (s : 
   pub made : callsIn (d .answers) ≡ s .front
   pub answers : answersIn (d .answers) ≡ answersTo cs (s .front)
   pub channels : d .state .content ≡ leavesAll cs (s .front)
-  pub shows : stand (d .state .partial) ≡ showsAt (place + length (traceOf (s .front))) (s .rest)
-  pub ends : endOf (d .state) .outcome ≡ endsAt (place + length (traceOf (s .front))) (s .rest)
+  pub shows : stand (d .state .partial) ≡ showsAt (place + length (flatten (s .records))) (s .rest)
+  pub ends : endOf (d .state) .outcome ≡ endsAt (place + length (flatten (s .records))) (s .rest)
   pub kept : endOf (d .state) .state .content ≡ leavesAll cs (s .front)
 
 -- That of any bytes at all, in any cuts.

@@ -1,10 +1,13 @@
--- What a replay comes to (document 02, request 1): the calls of its records, the bytes of calls, and steps in a row.
+-- What a replay comes to (document 02, requests 1 and 4): the calls of its records, the bytes of calls, and steps in a row.
 --   callsIn rs, answersIn rs   the calls of some replies, and their answers, in their order
---   traceOf xs                 the bytes of the calls xs, a record each
+--   Say rs xs                  each of the records rs says the call in its place among xs
+--   AllOld rs                  each of the records rs is of a kind up to 4
+--   recordsOf xs               the shortest records that say the calls xs;   traceOf xs   their bytes
 --   AllSayable xs              some record says each of them
 --   Rest place zs              from the bytes zs no record can be read at a place: there are none, or the kind is unknown, or the record would
 --                              end past the largest trace, or it is not finished
---   Split place xs             the bytes xs, from a place on: records in front, and a rest from which none can be read
+--   Split place xs             the bytes xs, from a place on: records in front, which say the calls `front`, and a rest from which none can
+--                              be read
 --   showsAt place zs           how the replay stands where zs is left at a place, before the end is declared: stopped there if no record of its
 --                              kind can come, else nothing yet
 --   endsAt place zs            what the end comes to there: a stop, unless nothing is left
@@ -15,14 +18,14 @@ use Prim.Native.Nat.{ℕ, zero, suc, _+_, _≤_, _<_}
 use mathlib.Core.Path.{_≡_}
 use mathlib.Core.Logic.{_⊎_}
 use mathlib.Core.Bool.{cond, _||_}
-use mathlib.Core.List.{List, [], _∷_, _++_}
-use lib.ListN.{length, drop}
+use mathlib.Core.List.{List, [], _∷_, _++_, flatten}
+use lib.ListN.{length, getD, drop}
 use lib.Dec.{ltb, eqb}
 use Rattle.words.specs.Answers.{Answer}
 use Rattle.energy_hall.specs.Hall.{Named}
 use Rattle.records.specs.Partial.{lengthOf}
 use Rattle.records.specs.Machine.{Done, andThen, Reader}
-use Rattle.replay_trace.specs.Trace.{lengths, bytesOf}
+use Rattle.replay_trace.specs.Trace.{lengths, says, saysOf, bytesOf}
 use Rattle.replay_trace.specs.Facts.{Sayable}
 use Rattle.replay_steps.specs.Steps.{mostBytes, Replied, Told, nothing-yet, replied, stops, stepOf}
 use Rattle.energy_channel.specs.declared.channel.Channel.{Channel}
@@ -37,9 +40,22 @@ answersIn (r ∷ rs) = r .answer ∷ answersIn rs
 
 -- ---- calls as bytes, and bytes as calls
 
+abbrev pub Say : List (List ℕ) → List Named → Type 0
+Say [] [] = Unit {0}
+Say [] (x ∷ xs) = ⊥
+Say (r ∷ rs) [] = ⊥
+Say (r ∷ rs) (x ∷ xs) = (saysOf r ≡ says x) × Say rs xs
+
+abbrev pub AllOld : List (List ℕ) → Type 0
+AllOld [] = Unit {0}
+AllOld (r ∷ rs) = (getD r 0 0 ≤ 4) × AllOld rs
+
+abbrev pub recordsOf : List Named → List (List ℕ)
+recordsOf [] = []
+recordsOf (x ∷ xs) = bytesOf x ∷ recordsOf xs
+
 abbrev pub traceOf : List Named → List ℕ
-traceOf [] = []
-traceOf (x ∷ xs) = bytesOf x ++ traceOf xs
+traceOf xs = flatten (recordsOf xs)
 
 abbrev pub AllSayable : List Named → Type 0
 AllSayable [] = Unit {0}
@@ -51,11 +67,12 @@ Rest place (k ∷ zs) = (lengthOf lengths k ≡ 0) ⊎ ((mostBytes < place + len
 
 pub record Split (place : ℕ) (xs : List ℕ) : Type 0 where
   pub front : List Named
+  pub records : List (List ℕ)
   pub rest : List ℕ
-  pub split : xs ≡ traceOf front ++ rest
-  pub sayable : AllSayable front
-  pub fits : place ≤ mostBytes → place + length (traceOf front) ≤ mostBytes
-  pub none : Rest (place + length (traceOf front)) rest
+  pub split : xs ≡ flatten records ++ rest
+  pub say : Say records front
+  pub fits : place ≤ mostBytes → place + length (flatten records) ≤ mostBytes
+  pub none : Rest (place + length (flatten records)) rest
 
 abbrev pub showsAt : ℕ → List ℕ → Told
 showsAt place [] = nothing-yet

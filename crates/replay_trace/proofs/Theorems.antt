@@ -26,7 +26,7 @@ use Rattle.replay_trace.specs.Facts.{ToldOnce, LengthsAre, CallFits, Say
 use Rattle.replay_trace.proofs.TraceLaws as laws
 use Rattle.replay_trace.proofs.TraceLaws.{kindIn, says-record}
 use Rattle.replay_trace.proofs.WriteLaws.{length-bytes, refuses-unsaid, refuses-short, takes}
-use Rattle.replay_trace.proofs.TraceTrips.{bytes-long, bytes-read, bytes-bytes, kind-known, meant-some, says-inside, says-back}
+use Rattle.replay_trace.proofs.TraceTrips.{bytes-long, bytes-read, bytes-bytes, kind-known, meant-some, says-inside, says-back, bytes-once, old-kinds}
 
 untold : Says → Meaning
 untold nothing = Meaning.Nothing
@@ -66,7 +66,7 @@ call-trips x =
 -- ---- bytes and what they say
 
 pub record-trips : (r : List ℕ) → RecordTrips r
-record-trips r = record { whole = λ l. (some l, whole l); back = says-back r }
+record-trips r = record { whole = λ l. (some l, whole l); back = says-back r; once = bytes-once r; old = old-kinds r }
   where
     some : (l : ℕ) → IsRecord (ruleOf lengths l) r → (x : Named) × (saysOf r ≡ says x)
     some l i =

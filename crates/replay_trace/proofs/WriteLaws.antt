@@ -1,10 +1,12 @@
 -- Laws of the record of a call: its length, which calls have none, and what a write answers and leaves. Assumes nothing.
 use Prim.Native.Nat.{ℕ, suc, _+_, _≤_, _<_}
-use mathlib.Core.Path.{_≡_, refl, sym, ap, _∙_}
-use mathlib.Core.Bool.{true, false, false≢true}
+use mathlib.Core.Path.{_≡_, refl, sym, ap, subst, _∙_}
+use mathlib.Core.Logic.{_≢_}
+use mathlib.Core.Bool.{Bool, true, false, cond, false≢true}
 use mathlib.Core.List.{List, [], _∷_, _++_}
 use native.Mathlib.Omega.{arith}
-use borrow.Author.Tests.{lt-ltb, le-ltb, ne-eqb}
+use native.Mathlib.Decide.{ℕ-discrete as decide}
+use borrow.Author.Tests.{lt-ltb, le-ltb, eq-eqb, ne-eqb}
 use lib.Dec.{ltb}
 use lib.ListN.{length, set, drop}
 use Rattle.words.specs.Answers.{refused, gives}
@@ -16,14 +18,22 @@ use Rattle.records_body.proofs.BodyTrips.{length-body, stores-whole}
 use Rattle.energy_calls.specs.declared.calls.Call.{Call}
 use Rattle.energy_calls.specs.declared.calls.Call.the-variants.{Open, Read, Resume, Close, Ask}
 use Rattle.energy_hall.specs.Hall.{Named}
-use Rattle.replay_trace.specs.Trace.{rowOf, lengths, kindFor, numbersFor, bytesOf, unsaidCall, unsaid, writeNumber, writeOf, written}
+use Rattle.replay_trace.specs.Trace.{rowOf, lengths, kindBy, kindFor, numbersFor, bytesOf, unsaidCall, unsaid, writeNumber, writeOf, written}
 
 -- ---- the length of a record
 
+-- the kind of a call that carries a boot number
+pub by-boot : (P : ℕ → Type 0) (b s l : ℕ) → (b ≡ 0 → P s) → (b ≢ 0 → P l) → P (kindBy b s l)
+by-boot P b s l f g = go (decide b 0)
+  where
+    go : Dec (b ≡ 0) → P (kindBy b s l)
+    go (yes e) = subst (λ (t : Bool). P (cond t s l)) (sym (eq-eqb b 0 e)) (f e)
+    go (no d) = subst (λ (t : Bool). P (cond t s l)) (sym (ne-eqb b 0 d)) (g d)
+
 pub numbers-many : (n : ℕ) (a : Call) → length (numbersFor n a) ≡ length (rowOf (kindFor a))
-numbers-many n (Open o) = refl
-numbers-many n (Read q) = refl
-numbers-many n (Resume q) = refl
+numbers-many n (Open o) = by-boot (λ k. 8 ≡ length (rowOf k)) (o .seen .boot) 1 5 (λ e. refl) (λ d. refl)
+numbers-many n (Read q) = by-boot (λ k. 8 ≡ length (rowOf k)) (q .boot) 2 6 (λ e. refl) (λ d. refl)
+numbers-many n (Resume q) = by-boot (λ k. 8 ≡ length (rowOf k)) (q .boot) 3 7 (λ e. refl) (λ d. refl)
 numbers-many n Close = refl
 numbers-many n Ask = refl
 
@@ -33,9 +43,9 @@ length-bytes x = ap suc (length-body (rowOf (kindFor (x .call))) (numbersFor (x 
 
 pub record-long : (a : Call) → unsaidCall a ≡ false → suc (extent (rowOf (kindFor a))) ≡ lengthOf lengths (kindFor a)
 unfolding lengthOf extent size
-record-long (Open o) e = refl
-record-long (Read q) e = refl
-record-long (Resume q) e = refl
+record-long (Open o) e = by-boot (λ k. suc (extent (rowOf k)) ≡ lengthOf lengths k) (o .seen .boot) 1 5 (λ e. refl) (λ d. refl)
+record-long (Read q) e = by-boot (λ k. suc (extent (rowOf k)) ≡ lengthOf lengths k) (q .boot) 2 6 (λ e. refl) (λ d. refl)
+record-long (Resume q) e = by-boot (λ k. suc (extent (rowOf k)) ≡ lengthOf lengths k) (q .boot) 3 7 (λ e. refl) (λ d. refl)
 record-long Close e = refl
 record-long Ask e = absurd (false≢true (sym e))
 

@@ -2,9 +2,12 @@
 ghost use mathlib.Core.Path.{_≡_};
 ghost use Prim.Native.Nat.{_<_, _^_};
 ghost use lib.ListN.{getD};
+ghost use Rattle.records_body.specs.Facts.{Fit};
 ghost use Rattle.words.specs.Told as words;
-ghost use Rattle.replay_trace.specs.Trace.{rowOf, callOn, says, told, meant, saysOf, kindFor, numbersFor, unsaid, writeOf, written};
+ghost use Rattle.replay_trace.specs.Trace.{rowOf, callOn, says, told, openingIn, readingIn, meant, saysOf, kindBy, kindFor, numbersFor, unsaid, writeOf, written};
 use energy_calls::calls::Call;
+use energy_calls::calls::Opening;
+use energy_calls::calls::Reading;
 use energy_calls::calls::opening_of;
 use energy_calls::calls::reading_of;
 use records::partial::length_of;
@@ -14,7 +17,7 @@ use words::answers::Value;
 use words::bytes::u8_at;
 
 // The bytes of a record of kind 0, 1, ..; 0 where there is no such kind.
-pub const LENGTHS: [u8; 5] = [0, 23, 18, 18, 2];
+pub const LENGTHS: [u8; 8] = [0, 23, 18, 18, 2, 27, 22, 22];
 
 // A call and the channel that it names.
 pub struct Said {
@@ -40,33 +43,56 @@ fn widths_of(kind: u8) -> [u8; 8]
         3 => [1, 8, 8, 0, 0, 0, 0, 0],
         // channel
         4 => [1, 0, 0, 0, 0, 0, 0, 0],
+        // those of 1, 2 and 3, and the boot number
+        5 => [1, 1, 4, 8, 8, 4, 0, 0],
+        6 => [1, 8, 8, 4, 0, 0, 0, 0],
+        7 => [1, 8, 8, 4, 0, 0, 0, 0],
         _ => [0; 8],
     }
 }
 
-// The answer that says a call.
-fn on_channel(channel: u64, call: Call) -> Meaning
-    ensures answer { λ r. ⌜ told r ≡ says (callOn channel call) ⌝ }
+// The answer that says a call on the channel that the first number names.
+fn on_channel(values: [u64; 8], call: Call) -> Meaning
+    ensures answer { λ r. ⌜ told r ≡ says (callOn (getD values 0 0) call) ⌝ }
 {
     Meaning::Says(Said {
-        channel: channel as usize,
+        channel: values[0] as usize,
         call: call,
     })
 }
 
-// What a kind and the numbers of its body say. Of a gap limit 4 bytes are read.
+// The opening in the numbers of a body. A number that the kind does not have is 0, so an old kind's boot number is.
+fn opening_in(values: [u64; 8]) -> Opening
+    requires { ⌜ (getD values 2 0 < 2 ^ 32) × (getD values 5 0 < 2 ^ 32) ⌝ }
+    ensures answer { λ r. ⌜ r ≡ openingIn values ⌝ }
+{
+    let gap = values[2] as u32;
+    let boot = values[5] as u32;
+    opening_of(values[1], gap, values[3], values[4], boot)
+}
+
+// What is seen at a reading or a resumption, in the numbers of its body.
+fn reading_in(values: [u64; 8]) -> Reading
+    requires { ⌜ getD values 3 0 < 2 ^ 32 ⌝ }
+    ensures answer { λ r. ⌜ r ≡ readingIn values ⌝ }
+{
+    let boot = values[3] as u32;
+    reading_of(values[1], values[2], boot)
+}
+
+// What a kind and the numbers of its body say.
 fn meant(kind: u8, values: [u64; 8]) -> Meaning
-    requires { ⌜ (kind ≡ 1 → getD values 2 0 < 2 ^ 32) ⌝ }
+    requires { ⌜ Fit (rowOf kind) values ⌝ }
     ensures answer { λ r. ⌜ told r ≡ meant kind values ⌝ }
 {
     match kind {
-        1 => on_channel(
-            values[0],
-            Call::Open(opening_of(values[1], values[2] as u32, values[3], values[4])),
-        ),
-        2 => on_channel(values[0], Call::Read(reading_of(values[1], values[2]))),
-        3 => on_channel(values[0], Call::Resume(reading_of(values[1], values[2]))),
-        4 => on_channel(values[0], Call::Close),
+        1 => on_channel(values, Call::Open(opening_in(values))),
+        2 => on_channel(values, Call::Read(reading_in(values))),
+        3 => on_channel(values, Call::Resume(reading_in(values))),
+        4 => on_channel(values, Call::Close),
+        5 => on_channel(values, Call::Open(opening_in(values))),
+        6 => on_channel(values, Call::Read(reading_in(values))),
+        7 => on_channel(values, Call::Resume(reading_in(values))),
         _ => Meaning::Nothing,
     }
 }
@@ -83,14 +109,24 @@ pub fn call_of(bytes: &[u8]) -> Meaning
     meant(kind, numbers(widths_of(kind), bytes))
 }
 
-// The kind of the records that say a call; 0 for a question, which none says.
+// The shorter of two kinds where the boot number is 0, which it then need not say.
+fn kind_by(boot: u32, short: u8, long: u8) -> u8
+    ensures answer { λ r. ⌜ r ≡ kindBy boot short long ⌝ }
+{
+    if boot == 0 {
+        return short;
+    }
+    long
+}
+
+// The kind of the shortest record that says a call; 0 for a question, which none says.
 fn kind_of(call: Call) -> u8
     ensures answer { λ r. ⌜ r ≡ kindFor call ⌝ }
 {
     match call {
-        Call::Open(_) => 1,
-        Call::Read(_) => 2,
-        Call::Resume(_) => 3,
+        Call::Open(o) => kind_by(o.seen.boot, 1, 5),
+        Call::Read(q) => kind_by(q.boot, 2, 6),
+        Call::Resume(q) => kind_by(q.boot, 3, 7),
         Call::Close => 4,
         Call::Ask => 0,
     }
@@ -102,9 +138,18 @@ fn numbers_of(channel: usize, call: Call) -> [u64; 8]
 {
     let n = channel as u64;
     match call {
-        Call::Open(o) => [n, o.unit, o.gap as u64, o.seen.tick, o.seen.status, 0, 0, 0],
-        Call::Read(q) => [n, q.tick, q.status, 0, 0, 0, 0, 0],
-        Call::Resume(q) => [n, q.tick, q.status, 0, 0, 0, 0, 0],
+        Call::Open(o) => [
+            n,
+            o.unit,
+            o.gap as u64,
+            o.seen.tick,
+            o.seen.status,
+            o.seen.boot as u64,
+            0,
+            0,
+        ],
+        Call::Read(q) => [n, q.tick, q.status, q.boot as u64, 0, 0, 0, 0],
+        Call::Resume(q) => [n, q.tick, q.status, q.boot as u64, 0, 0, 0, 0],
         Call::Close => [n, 0, 0, 0, 0, 0, 0, 0],
         Call::Ask => [0; 8],
     }

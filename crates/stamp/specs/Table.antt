@@ -65,10 +65,10 @@ blank offset n = capture offset (replicate (n - 2064) 0)
 
 -- the calls of the energy cases: channel 0 opened at a count, and one reading, in time
 abbrev pub opening : ℕ → Named
-opening count = record { channel = 0; call = Open (openingOf 14 1000 5000 count) }
+opening count = record { channel = 0; call = Open (openingOf 14 1000 5000 count 0) }
 
 abbrev pub reading : ℕ → Call
-reading count = Read (readingOf 6000 count)
+reading count = Read (readingOf 6000 count 0)
 
 -- what the reading answers, and what the total is then
 abbrev pub read : ℕ → ℕ → Answer

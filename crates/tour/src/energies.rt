@@ -9,7 +9,7 @@ use energy_hall::hall::total;
 use words::answers::Value;
 
 pub(crate) fn channels() {
-    let asked = opening_of(14, 1000, 5000, 0);
+    let asked = opening_of(14, 1000, 5000, 0, 0);
     let seen = asked.seen;
     say(
         b"energy_calls: the tick that an opening sees",

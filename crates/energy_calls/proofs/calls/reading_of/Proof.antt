@@ -1,4 +1,4 @@
--- `energy_calls::calls::reading_of` meets its contract: its two numbers, in their fields. Assumes nothing.
+-- `energy_calls::calls::reading_of` meets its contract: its three numbers, in their fields. Assumes nothing.
 use mathlib.Core.Path.{refl}
 use Rattle.energy_calls.proofs.calls.reading_of.Statement.{statement}
 use Rattle.energy_calls.proofs.calls.reading_of.Tie as tie

@@ -1,10 +1,12 @@
 -- `replay_trace::trace::call_of` meets its contract: the length of its kind, and then what its numbers say. Assumes nothing.
 use Prim.Native.Nat.{ℕ}
-use mathlib.Core.Path.{ap, _∙_}
+use mathlib.Core.Path.{sym, ap, subst, _∙_}
 use mathlib.Core.List.{List}
 use Rattle.records_body.specs.Body.{numbersAt}
-use Rattle.replay_trace.specs.Trace.{meant}
-use Rattle.replay_trace.proofs.TraceLaws.{length-by, says-none, says-whole, gap-read}
+use Rattle.records_body.specs.Facts.{Fit}
+use Rattle.records_body.proofs.BodyTrips.{numbers-fit}
+use Rattle.replay_trace.specs.Trace.{rowOf, meant}
+use Rattle.replay_trace.proofs.TraceLaws.{length-by, says-none, says-whole}
 use native.Mathlib.Omega.{arith}
 use borrow.Author.Needs.{needs}
 use Rattle.replay_trace.proofs.trace.call_of.Statement.{statement}
@@ -33,7 +35,11 @@ numbers-requires c κs = search needs
 meant-requires : tie.Need-meant-requires
 meant-requires c κs =
     let s = c .before .before .before .before .before .before in
-    gap-read (s .before .args .bytes .now) (λ k. s .shared-slice-known .given k .fits) (c .before .widths-of .ensures) (c .numbers .ensures)
+    let r = s .before .args .bytes .now in
+    let ws = c .before .widths-of .result in
+    let kind = c .before .before .before .before .before .u8-at .result in
+    subst (λ (vs : List ℕ). Fit (rowOf kind) vs) (sym (c .numbers .ensures))
+    (subst (λ (ks : List ℕ). Fit ks (numbersAt ws r 1)) (c .before .widths-of .ensures) (numbers-fit ws r 1 (λ k. s .shared-slice-known .given k .fits)))
 
 returns-2 : tie.Need-returns-2
 returns-2 c =

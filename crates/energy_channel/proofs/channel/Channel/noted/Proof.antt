@@ -7,7 +7,7 @@ count-of-requires : tie.Need-count-of-requires
 count-of-requires c κs = search needs
 
 returns : tie.Need-returns
-returns c = cc
+returns c = rw (c .count-of .ensures)
 
 pub noted-spec : {M : Type 1} → statement M
 noted-spec = tie.close (tie.spec count-of-requires returns)

@@ -13,22 +13,22 @@ open-here c = flag (c .before .is-open .ensures) (c .if1 .taken)
 is-open-requires : tie.Need-is-open-requires
 is-open-requires c κs = search needs
 
-refused-requires : tie.Need-refused-requires
-refused-requires c κs = search needs
-
-returns : tie.Need-returns
-returns c =
-    let d = c .before in
-    refuses _ _ 20 tt (resumes-20 _ _ (open-here (d .before .before .before)) (d .if2 .taken)) (c .refused .ensures)
-
 noted-requires : tie.Need-noted-requires
 noted-requires c κs = search needs
 
-returns-2 : tie.Need-returns-2
+returns : tie.Need-returns
 unfolding values taken
+returns c =
+    let d = c .before in
+    accepts _ _ (resumes-0 _ _ (open-here (d .before .before .before)) (d .if2 .taken)) refl (c .noted .ensures)
+
+refused-requires : tie.Need-refused-requires
+refused-requires c κs = search needs
+
+returns-2 : tie.Need-returns-2
 returns-2 c =
     let d = c .before in
-    accepts _ _ (resumes-0 _ _ (open-here (d .before .before .before)) (d .if2 .left)) refl (c .noted .ensures)
+    refuses _ _ 20 tt (resumes-20 _ _ (open-here (d .before .before .before)) (d .if2 .left)) (c .refused .ensures)
 
 refused-requires-2 : tie.Need-refused-requires-2
 refused-requires-2 c κs = search needs
@@ -40,4 +40,4 @@ returns-3 c =
 
 pub resume-spec : {M : Type 1} → statement M
 resume-spec =
-    tie.close (tie.spec is-open-requires refused-requires returns noted-requires returns-2 refused-requires-2 returns-3)
+    tie.close (tie.spec is-open-requires noted-requires returns refused-requires returns-2 refused-requires-2 returns-3)
