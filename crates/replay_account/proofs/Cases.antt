@@ -26,7 +26,7 @@ use Rattle.replay_account.specs.Replay.{recordsOf, traceOf, AllSayable}
 use Rattle.replay_account.specs.Cases.{CasesFact, NightTraceFact, NightClosed}
 use Rattle.replay_account.proofs.Calls.{written-say, calls-fact}
 use Rattle.replay_trace.specs.Facts.{SeenFits, CallFits}
-use Rattle.energy_channel.proofs.ChannelLaws.{both}
+use Rattle.words.proofs.TestLaws.{and-both}
 use Rattle.energy_calls.specs.declared.calls.Reading.{Reading}
 use Rattle.energy_calls.specs.declared.calls.Call.{Call}
 use Rattle.energy_calls.specs.declared.calls.Call.the-variants.{Open, Read, Resume, Close, Ask}
@@ -90,13 +90,13 @@ sayable-test (x ∷ xs) = not (unsaid x) && (fits-test (x .call) && sayable-test
 seen-fits : (q : Reading) → seen-test q ≡ true → SeenFits q
 unfolding seen-test
 seen-fits q e =
-    let p = both _ _ e in
-    let r = both _ _ (p .1) in
+    let p = and-both _ _ e in
+    let r = and-both _ _ (p .1) in
     (ltb-true _ _ (p .0), ltb-true _ _ (r .0), ltb-true _ _ (r .1))
 
 call-fits : (a : Call) → fits-test a ≡ true → CallFits a
 unfolding fits-test
-call-fits (Open o) e = let p = both _ _ e in (ltb-true _ _ (p .0), seen-fits (o .seen) (p .1))
+call-fits (Open o) e = let p = and-both _ _ e in (ltb-true _ _ (p .0), seen-fits (o .seen) (p .1))
 call-fits (Read q) e = seen-fits q e
 call-fits (Resume q) e = seen-fits q e
 call-fits Close e = tt
@@ -106,8 +106,8 @@ all-sayable : (xs : List Named) → sayable-test xs ≡ true → AllSayable xs
 unfolding sayable-test
 all-sayable [] e = tt
 all-sayable (x ∷ xs) e =
-    let p = both _ _ e in
-    let r = both _ _ (p .1) in
+    let p = and-both _ _ e in
+    let r = and-both _ _ (p .1) in
     (record { said = not-true _ (p .0); fits = call-fits (x .call) (r .0) }, all-sayable xs (r .1))
 
 night-bytes : length (traceOf (calls night)) ≡ 324

@@ -6,7 +6,7 @@ use mathlib.Core.Logic.{inl, inr}
 use mathlib.Core.Bool.{Bool, true, false}
 use mathlib.Core.List.{List, [], _∷_, _++_, append-assoc, flatten}
 use native.Mathlib.Omega.{arith}
-use lib.ListN.{length, getD, take, drop, length-append, length-drop, take-append-drop}
+use lib.ListN.{length, getD, take, drop, length-append, length-drop, take-append-drop, List·getD-append}
 use lib.Seq.{getD-take, length-take-le, take-at, drop-at}
 use lib.Dec.{ltb, eqb}
 use borrow.Author.Tests.{ltb-true, ltb-false, eqb-true, eqb-false}
@@ -99,10 +99,6 @@ split-fact place xs = any (length xs) place xs (omega arith)
 
 -- ---- and no other: the replay of both makes the same calls, and a record's kind has its length
 
-first-byte : (r ys : List ℕ) → 0 < length r → getD (r ++ ys) 0 0 ≡ getD r 0 0
-first-byte [] ys h = absurd (omega (arith, h))
-first-byte (y ∷ r) ys h = refl
-
 -- two cuts of the same bytes into records that say the same calls
 same-cut : (xs : List Named) (rs qs : List (List ℕ)) (u v : List ℕ) → Say rs xs → Say qs xs → flatten rs ++ u ≡ flatten qs ++ v
     → (rs ≡ qs) × (u ≡ v)
@@ -118,7 +114,7 @@ same-cut (x ∷ xs) (r ∷ rs) (q ∷ qs) u v a b e =
     let ys = flatten rs ++ u in
     let zs = flatten qs ++ v in
     let f : r ++ ys ≡ q ++ zs = sym (append-assoc r (flatten rs) u) ∙ e ∙ append-assoc q (flatten qs) v in
-    let kind : getD r 0 0 ≡ getD q 0 0 = sym (first-byte r ys (i .some)) ∙ ap (λ (l : List ℕ). getD l 0 0) f ∙ first-byte q zs (j .some) in
+    let kind : getD r 0 0 ≡ getD q 0 0 = sym (List·getD-append r ys 0 0 (i .some)) ∙ ap (λ (l : List ℕ). getD l 0 0) f ∙ List·getD-append q zs 0 0 (j .some) in
     let many : length r ≡ length q = sym (i .long) ∙ ap (lengthOf lengths) kind ∙ j .long in
     let here : r ≡ q = sym (take-at r ys (length r) refl) ∙ ap (take (length r)) f ∙ take-at q zs (length r) (sym many) in
     let later : ys ≡ zs = sym (drop-at r ys (length r) refl) ∙ ap (drop (length r)) f ∙ drop-at q zs (length r) (sym many) in
