@@ -50,7 +50,7 @@ module _ (ws vs : List ℕ) where
 pub held-fits : (w v : ℕ) {h : ℕ} → h ≡ field 0 w v → h ≡ v → v < 2 ^ w
 held-fits w v e t = subst (λ (x : ℕ). x < 2 ^ w) (sym e ∙ t) (field-lt 0 w v)
 
-held-whole : (w v : ℕ) → v < 2 ^ w → field 0 w v ≡ v
+pub held-whole : (w v : ℕ) → v < 2 ^ w → field 0 w v ≡ v
 unfolding field
 held-whole w v l = rw div-one (mod-eq-of-lt l)
 

@@ -15,7 +15,8 @@ use Rattle.energy_channel.proofs.Theorems as channel
 use Rattle.energy_hall.proofs.Theorems as energy
 use Rattle.replay_trace.proofs.Theorems as trace
 use Rattle.replay_steps.proofs.Told as steps
-use Rattle.stamp.specs.Unique.{WordsUnique, ListInputUnique, StoresUnique, TextUnique, FieldsUnique, CaptureUnique, ReportUnique, EnergyCallsUnique, EnergyChannelUnique, TpmiStructureUnique, RaplDomainsUnique, TpmiEntriesUnique, RaplUnitsUnique, TpmiBanksUnique, EnergyHallUnique, TpmiWalkUnique, RaplWindowsUnique, RaplRegistersUnique, RaplLimitsUnique, TpmiDiscoveryUnique, RaplPermitsUnique, TpmiFeaturesUnique, RaplChainsUnique, RaplLookupsUnique, TpmiCountsUnique, TpmiRegistersUnique, TpmiStoreUnique, RaplWritesUnique, ListLinesUnique, ListOutputUnique, RecordsUnique, RecordsBodyUnique, ReplayTraceUnique, ReplayStepsUnique, ReplayLinesUnique}
+use Rattle.sweep_readings.proofs.Theorems as sweeps
+use Rattle.stamp.specs.Unique.{WordsUnique, ListInputUnique, StoresUnique, TextUnique, FieldsUnique, CaptureUnique, ReportUnique, EnergyCallsUnique, EnergyChannelUnique, TpmiStructureUnique, RaplDomainsUnique, TpmiEntriesUnique, RaplUnitsUnique, TpmiBanksUnique, EnergyHallUnique, TpmiWalkUnique, RaplWindowsUnique, RaplRegistersUnique, RaplLimitsUnique, TpmiDiscoveryUnique, RaplPermitsUnique, TpmiFeaturesUnique, RaplChainsUnique, RaplLookupsUnique, TpmiCountsUnique, TpmiRegistersUnique, TpmiStoreUnique, RaplWritesUnique, ListLinesUnique, ListOutputUnique, RecordsUnique, RecordsBodyUnique, ReplayTraceUnique, ReplayStepsUnique, ReplayLinesUnique, SweepReadingsUnique, SweepLentUnique}
 
 pub words-unique : WordsUnique
 words-unique =
@@ -324,4 +325,23 @@ replay-lines-unique =
       stop-line-kept = λ κs a x y s t p q. p .1 ∙ sym (q .1);
       open-lines = λ κs a x y s t p q. words.told-once x y (p .0 ∙ sym (q .0));
       open-lines-kept = λ κs a x y s t p q. p .1 ∙ sym (q .1);
+    }
+
+pub sweep-readings-unique : SweepReadingsUnique
+sweep-readings-unique =
+    record {
+      asked-of = λ κs a x y s t p q. p ∙ sym q;
+      unfit = λ κs a x y s t p q. p ∙ sym q;
+      sweep-array = λ κs a x y s t p q. sweeps.one-swept _ _ _ x y (p .0) (p .1) (q .0) (q .1);
+      sweep-array-kept = λ κs a x y s t p q. p .2 ∙ sym (q .2);
+    }
+
+pub sweep-lent-unique : SweepLentUnique
+sweep-lent-unique =
+    record {
+      sweep = λ κs a x y s t p q. p .0 ∙ sym (q .0);
+      sweep-channels = λ κs a x y s t p q. p .1 ∙ sym (q .1);
+      sweep-answers = λ κs a x y s t p q. p .2 ∙ sym (q .2);
+      sweep-own = λ κs a x y s t p q. sweeps.one-swept _ _ _ x y (p .0) (p .1) (q .0) (q .1);
+      sweep-own-kept = λ κs a x y s t p q. p .2 ∙ sym (q .2);
     }

@@ -1,6 +1,6 @@
 -- Uniqueness (document 01, "What the stamp certifies"): of every public call, any two results that its contract allows are equal. The
--- contracts themselves are named here (`Post` of each function), not copies of them. The one exception: of a part that is handed back its
--- bytes are fixed, not the reference (docs/STAMP.md).
+-- contracts themselves are named here (`Post` of each function), not copies of them; of `sweep_lent`'s `sweep` alone a statement of our own, which
+-- is proved to be its contract. The one exception: of a part that is handed back its bytes are fixed, not the reference (docs/STAMP.md).
 --   Only P        the result is fixed: for all lifetimes κs and arguments a, and whatever the parameters are at exit
 --   Fixes out P   what `out` takes of the result and of the parameters at exit is fixed: the bytes of a part that is handed back, and what
 --                 was lent `&mut` as it is at exit (`s .0` is the first parameter at exit, `s .1 .0` the second, ..)
@@ -122,6 +122,11 @@ use Rattle.replay_steps.proofs.steps.ended.Reads as replay-steps-ended
 use Rattle.replay_lines.proofs.spoken.record_line.Reads as replay-lines-record-line
 use Rattle.replay_lines.proofs.spoken.stop_line.Reads as replay-lines-stop-line
 use Rattle.replay_lines.proofs.spoken.open_lines.Reads as replay-lines-open-lines
+use Rattle.sweep_readings.proofs.swept.asked_of.Reads as sweep-readings-asked-of
+use Rattle.sweep_readings.proofs.swept.unfit.Reads as sweep-readings-unfit
+use Rattle.sweep_readings.proofs.swept.sweep_array.Reads as sweep-readings-sweep-array
+use Rattle.sweep_lent.proofs.lent.unread.sweep as sweep-lent-sweep
+use Rattle.sweep_lent.proofs.lent.sweep_own.Reads as sweep-lent-sweep-own
 
 abbrev pub Fixes : {L : Type 0} {A R E B : L → Type 0} → ((κs : L) → R κs → E κs → B κs) → ((κs : L) → A κs → R κs → E κs → Type 0) → Type 0
 Fixes {L} {A} {R} {E} out P = (κs : L) (a : A κs) (x y : R κs) (s t : E κs) → P κs a x s → P κs a y t → out κs x s ≡ out κs y t
@@ -332,3 +337,18 @@ pub record ReplayLinesUnique : Type 0 where
   pub stop-line-kept : Fixes (λ κs x s. now (s .0)) replay-lines-stop-line.Post
   pub open-lines : Only replay-lines-open-lines.Post
   pub open-lines-kept : Fixes (λ κs x s. now (s .0)) replay-lines-open-lines.Post
+
+pub record SweepReadingsUnique : Type 0 where
+  pub asked-of : Only sweep-readings-asked-of.Post
+  pub unfit : Only sweep-readings-unfit.Post
+  pub sweep-array : Only sweep-readings-sweep-array.Post
+  pub sweep-array-kept : Fixes (λ κs x s. now (s .1 .1 .0)) sweep-readings-sweep-array.Post
+
+-- (The prover reads no contract of a function over a lent list of records; what `sweep`'s says, and that it says nothing else, stands in
+-- proofs/lent/unread of its crate.)
+pub record SweepLentUnique : Type 0 where
+  pub sweep : Only sweep-lent-sweep.Post
+  pub sweep-channels : Fixes (λ κs x s. now (s .0)) sweep-lent-sweep.Post
+  pub sweep-answers : Fixes (λ κs x s. now (s .1 .1 .0)) sweep-lent-sweep.Post
+  pub sweep-own : Only sweep-lent-sweep-own.Post
+  pub sweep-own-kept : Fixes (λ κs x s. now (s .1 .1 .0)) sweep-lent-sweep-own.Post

@@ -1,11 +1,15 @@
-// Energy: what a call carries, one channel, and the hall.
+// Energy: what a call carries, one channel, the hall, and a sweep of it.
 use crate::start::say;
 use energy_calls::calls::Call;
 use energy_calls::calls::number_of;
 use energy_calls::calls::opening_of;
+use energy_calls::calls::reading_of;
 use energy_channel::channel::closed_channel;
 use energy_hall::hall::all_closed;
 use energy_hall::hall::total;
+use sweep_lent::lent::sweep_own;
+use sweep_readings::swept::asked_of;
+use sweep_readings::swept::unfit;
 use words::answers::Value;
 
 pub(crate) fn channels() {
@@ -25,5 +29,20 @@ pub(crate) fn channels() {
     say(
         b"energy_hall: the refusal of a closed channel's total",
         Value::Is(number_of(answered) as u64),
+    );
+}
+
+pub(crate) fn sweeps() {
+    say(
+        b"sweep_readings: the refusal of 65 readings",
+        Value::Is(unfit(65, 64, 65) as u64),
+    );
+    let words = asked_of(7, reading_of(6000, 16, 0));
+    let readings = [words];
+    let mut answers = [0u8; 1];
+    let swept = sweep_own(all_closed(), &readings, &mut answers);
+    say(
+        b"sweep_lent: the refusal of a sweep of one reading, or 0",
+        Value::Is(swept.number as u64),
     );
 }

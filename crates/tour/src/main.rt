@@ -21,6 +21,7 @@ fn main() {
     powers::registers(&config, &low, &high);
     powers::write(&config, &mut low, &mut high);
     energies::channels();
+    energies::sweeps();
     traces::replay();
     lines::listing(&config, &high);
 }

@@ -1,0 +1,3 @@
+pub mod Mix
+pub mod Facts
+pub mod Cases

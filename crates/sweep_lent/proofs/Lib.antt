@@ -1,0 +1,4 @@
+mod Copied
+mod Rows
+mod Relends
+mod Channels
