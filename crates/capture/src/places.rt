@@ -6,7 +6,7 @@ ghost use Rattle.capture.specs.Told.{told};
 
 // `count` pieces of `size` bytes each, one after the other from `start` on, in the BAR capture with the number `bir`: a bank of instances,
 // one instance, one register.
-#[derive(Drop)]
+#[derive(Clone, Copy)]
 pub struct Place {
     pub bir: u8,
     pub start: usize,
@@ -14,7 +14,7 @@ pub struct Place {
     pub count: u64,
 }
 
-#[derive(Drop)]
+#[derive(Clone, Copy)]
 pub enum Found {
     At(Place),
     Refused(u8),

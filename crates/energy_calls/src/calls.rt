@@ -4,7 +4,7 @@ ghost use Rattle.words.specs.Answers.{number_in};
 ghost use Rattle.energy_calls.specs.Calls.{reading_of, opening_of, count_of, told};
 
 // What is seen at a moment: the tick in ms, the status register, and the boot number of the machine, which each of its restarts changes.
-#[derive(Drop)]
+#[derive(Clone, Copy)]
 pub struct Reading {
     pub tick: u64,
     pub status: u64,
@@ -12,7 +12,7 @@ pub struct Reading {
 }
 
 // What an opening is handed: energy unit, gap limit in ms, and what is seen.
-#[derive(Drop)]
+#[derive(Clone, Copy)]
 pub struct Opening {
     pub unit: u64,
     pub gap: u32,
@@ -20,7 +20,7 @@ pub struct Opening {
 }
 
 // A call on one channel. Ask is the question for its total.
-#[derive(Drop)]
+#[derive(Clone, Copy)]
 pub enum Call {
     Open(Opening),
     Read(Reading),
@@ -30,7 +30,7 @@ pub enum Call {
 }
 
 // Opening, reading and resuming are accepted with nothing to give; closing and asking give the total.
-#[derive(Drop)]
+#[derive(Clone, Copy)]
 pub enum Answered {
     Accepted,
     Total(u64),

@@ -8,7 +8,7 @@ use energy_calls::calls::{Answered, Call, Opening, Reading, count_of};
 
 // What a channel holds: whether it says that it is open, what it was opened with, tick, count and boot number of the opening, reading or
 // resumption accepted last, and the total since the opening.
-#[derive(Drop)]
+#[derive(Clone, Copy)]
 pub struct Channel {
     pub live: bool,
     pub unit: u64,
@@ -20,7 +20,7 @@ pub struct Channel {
 }
 
 // A channel after a call, and the call's answer.
-#[derive(Drop)]
+#[derive(Clone, Copy)]
 pub struct After {
     pub channel: Channel,
     pub answer: Answered,

@@ -7,7 +7,7 @@ use energy_calls::calls::{Answered, Call, Opening, Reading};
 use energy_channel::channel::{Channel, closed_channel};
 
 // The channels after a call, and the call's answer.
-#[derive(Drop)]
+#[derive(Clone, Copy)]
 pub struct HallAfter {
     pub channels: [Channel; 64],
     pub answer: Answered,

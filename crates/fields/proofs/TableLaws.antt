@@ -34,6 +34,8 @@ fields_with p (w ∷ ws) x (v ∷ vs) h =
     ap₂ (λ (a : ℕ) (l : List ℕ). a ∷ l)
     (fields_below (p + w) ws (with_field p w x v) vs p w (omega arith) ∙ field_with_fit p w x v h.0)
     (fields_with (p + w) ws (with_field p w x v) vs h.1)
+fields_with p [] x (v ∷ vs) h = elim h [ ]
+fields_with p (w ∷ ws) x [] h = elim h [ ]
 
 -- read and written back
 pub with_fields_law : (p : ℕ) (ws : List ℕ) (x : ℕ) → with_fields p ws x (fields p ws x) ≡ x
@@ -53,6 +55,8 @@ fields_cover p (w ∷ ws) (v ∷ vs) x y f e hx hy =
     let n : ℕ = p + (w + total ws) in
     let same : (x : ℕ) → x < 2 ^ n → with_field p w x v < 2 ^ (p + w + total ws) = λ x h. rw add_assoc (with_lt p w x v n (omega arith) h) in
     fields_cover (p + w) ws vs _ _ f.1 (with_mod p w x v ∙ ap (λ (a : ℕ). v % 2 ^ w * 2 ^ p + a) e ∙ sym (with_mod p w y v)) (same x hx) (same y hy)
+fields_cover p [] (v ∷ vs) x y f e hx hy = elim f [ ]
+fields_cover p (w ∷ ws) [] x y f e hx hy = elim f [ ]
 
 -- what is read fits
 pub fields_fit : (p : ℕ) (ws : List ℕ) (x : ℕ) → Fit ws (fields p ws x)
@@ -89,10 +93,14 @@ pub fit_narrow : (ws vs : List ℕ) → Fit ws vs → wider ws vs ≡ false
 unfolding wider
 fit_narrow [] [] f = refl
 fit_narrow (w ∷ ws) (v ∷ vs) f = or_skip _ (lt-leb _ _ f.0) ∙ fit_narrow ws vs f.1
+fit_narrow [] (v ∷ vs) f = elim f [ ]
+fit_narrow (w ∷ ws) [] f = elim f [ ]
 
 pub fit_length : (ws vs : List ℕ) → Fit ws vs → length ws ≡ length vs
 fit_length [] [] f = refl
 fit_length (w ∷ ws) (v ∷ vs) f = ap suc (fit_length ws vs f.1)
+fit_length [] (v ∷ vs) f = elim f [ ]
+fit_length (w ∷ ws) [] f = elim f [ ]
 
 pub narrow_fit : (ws vs : List ℕ) → length ws ≡ length vs → wider ws vs ≡ false → Fit ws vs
 unfolding wider
@@ -135,6 +143,8 @@ module _ (ws : List ℕ) (n : ℕ) (size : total ws ≡ 8 * n) (xs : List ℕ) (
 pub fit_append : (ws us vs ts : List ℕ) → Fit ws vs → Fit us ts → Fit (ws ++ us) (vs ++ ts)
 fit_append [] us [] ts f g = g
 fit_append (w ∷ ws) us (v ∷ vs) ts f g = (f.0, fit_append ws us vs ts f.1 g)
+fit_append [] us (v ∷ vs) ts f g = elim f [ ]
+fit_append (w ∷ ws) us [] ts f g = elim f [ ]
 
 -- a table's fields one after the other
 fields_append : (p : ℕ) (ws us : List ℕ) (z : ℕ) → fields p (ws ++ us) z ≡ fields p ws z ++ fields (p + total ws) us z
@@ -146,6 +156,8 @@ with_append : (p : ℕ) (ws us : List ℕ) (z : ℕ) (vs ts : List ℕ) → Fit 
 unfolding with_fields
 with_append p [] us z [] ts f = rw add-zero
 with_append p (w ∷ ws) us z (v ∷ vs) ts f = rw (← add_assoc) (with_append (p + w) ws us (with_field p w z v) vs ts f.1)
+with_append p [] us z (v ∷ vs) ts f = elim f [ ]
+with_append p (w ∷ ws) us z [] ts f = elim f [ ]
 
 -- the fields below place m are those of x, and from place m on those of y
 fields_under : (m x y : ℕ) → x < 2 ^ m → (p : ℕ) (ws : List ℕ) → p + total ws ≤ m → fields p ws (y * 2 ^ m + x) ≡ fields p ws x

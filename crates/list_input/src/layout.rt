@@ -7,7 +7,7 @@ ghost use Rattle.list_input.specs.Told.{told};
 use words::bytes::{u8_at, u32_at};
 
 // The two BAR numbers, and where each capture ends. The first starts at 4,101, the second 5 bytes after the first has ended.
-#[derive(Drop)]
+#[derive(Clone, Copy)]
 pub struct Layout {
     pub lo: u8,
     pub low_end: usize,
@@ -15,7 +15,7 @@ pub struct Layout {
     pub high_end: usize,
 }
 
-#[derive(Drop)]
+#[derive(Clone, Copy)]
 pub enum Laid {
     Out(Layout),
     Unreadable,

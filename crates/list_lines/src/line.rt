@@ -6,7 +6,7 @@ use tpmi_banks::faults::{bank_in, empty};
 use tpmi_counts::valid::valid_in;
 
 // A feature, as its line says it.
-#[derive(Drop)]
+#[derive(Clone, Copy)]
 pub struct Feature {
     pub id: u64,
     pub instances: u64,
@@ -15,7 +15,7 @@ pub struct Feature {
     pub start: usize,
 }
 
-#[derive(Drop)]
+#[derive(Clone, Copy)]
 pub enum Line {
     Says(Feature),
     Nothing,

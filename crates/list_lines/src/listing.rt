@@ -7,7 +7,7 @@ use list_input::layout::{Laid, config_in, high_in, layout_of, low_in};
 use tpmi_discovery::discovery::discover;
 use tpmi_discovery::table::{Located, Table};
 
-#[derive(Drop)]
+#[derive(Clone, Copy)]
 pub enum Listing {
     Unreadable,
     Refused(u8),

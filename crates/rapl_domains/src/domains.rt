@@ -8,7 +8,7 @@ use fields::bits::field;
 use words::bytes::u64_at;
 
 // Register 0 of a domain; a reserved field is named by its lowest bit.
-#[derive(Drop)]
+#[derive(Clone, Copy)]
 pub struct Header {
     pub version: u64,
     // the type; 2 is a package
@@ -22,7 +22,7 @@ pub struct Header {
 }
 
 // The answer of each stage of the lookup.
-#[derive(Drop)]
+#[derive(Clone, Copy)]
 pub enum Known {
     Domain(Header),
     Refused(u8),

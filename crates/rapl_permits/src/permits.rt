@@ -16,7 +16,7 @@ pub const PWR_LIM_EN: u64 = 2;
 pub const LOCK: u64 = 3;
 
 // Where a field stands: its lowest bit, its bits, and the first number that is too wide for it.
-#[derive(Drop)]
+#[derive(Clone, Copy)]
 pub struct Span {
     pub at: u32,
     pub width: u32,

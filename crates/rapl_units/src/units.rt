@@ -9,7 +9,7 @@ use fields::tables::word_of;
 use words::answers::Value;
 
 // A unit is one over 2 to its number; a reserved field is named by its lowest bit.
-#[derive(Drop)]
+#[derive(Clone, Copy)]
 pub struct Units {
     // in W
     pub power: u64,

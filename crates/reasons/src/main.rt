@@ -26,7 +26,7 @@ const TESTS: u64 = 4096;
 const READS: usize = 910;
 
 // How an exchange's tests went: the bytes that they took, the state that they left, and the last reply.
-#[derive(Drop)]
+#[derive(Clone, Copy)]
 struct Exchanged {
     used: usize,
     state: Mailbox,
@@ -34,7 +34,7 @@ struct Exchanged {
 }
 
 // How the input went: the bytes that were played, that no exchange was left open, and the reads that ended.
-#[derive(Drop)]
+#[derive(Clone, Copy)]
 struct Course {
     used: usize,
     over: bool,

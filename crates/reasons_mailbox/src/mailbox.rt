@@ -15,7 +15,7 @@ pub const READ: u64 = 0;
 pub const WRITE: u64 = 1;
 
 // What is asked, and how many tests in a row were busy in the wait that goes on.
-#[derive(Drop)]
+#[derive(Clone, Copy)]
 pub struct Exchange {
     pub command: u64,
     pub domain: u64,
@@ -28,7 +28,7 @@ pub struct Exchange {
 }
 
 // The phases: waiting for RUN_BUSY to read 0 so that it can start, waiting for it to read 0 again, over (ended, or 30).
-#[derive(Drop)]
+#[derive(Clone, Copy)]
 pub enum Mailbox {
     Starting(Exchange),
     Ending(Exchange),
@@ -36,7 +36,7 @@ pub enum Mailbox {
 }
 
 // An exchange to go on with, or 17.
-#[derive(Drop)]
+#[derive(Clone, Copy)]
 pub enum Begun {
     At(Mailbox),
     Refused(u8),
@@ -44,7 +44,7 @@ pub enum Begun {
 
 // What a step says: test again; store the interface word, or first the data and then the word; ended, a read with the data; 30; or, where the
 // exchange was over before, nothing.
-#[derive(Drop)]
+#[derive(Clone, Copy)]
 pub enum Reply {
     Waits,
     Store(u64),
@@ -55,7 +55,7 @@ pub enum Reply {
     Nothing,
 }
 
-#[derive(Drop)]
+#[derive(Clone, Copy)]
 pub struct Stepped {
     pub state: Mailbox,
     pub reply: Reply,

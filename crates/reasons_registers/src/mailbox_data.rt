@@ -9,7 +9,7 @@ use fields::tables::word_of;
 use words::answers::Value;
 
 // Software clears what hardware has set.
-#[derive(Drop)]
+#[derive(Clone, Copy)]
 pub struct MailboxData {
     // bits 31:0: a bit for each coarse reason
     pub coarse: u64,

@@ -9,7 +9,7 @@ use fields::tables::word_of;
 use words::answers::Value;
 
 // A reserved field is named by its lowest bit.
-#[derive(Drop)]
+#[derive(Clone, Copy)]
 pub struct Header {
     // INTERFACE_VERSION: the major version in bits 7:5, the minor one in bits 4:0
     pub version: u64,

@@ -5,7 +5,7 @@ ghost use Rattle.records.specs.Partial.{rule_of, length_of, kind_of, cannot, hal
 
 // A record that is being put together: the byte place where it starts, how many of its bytes are held, and they. Stopped: no record can be
 // there, and nothing that comes is looked at.
-#[derive(Drop)]
+#[derive(Clone, Copy)]
 pub struct Partial {
     pub place: u64,
     pub held: usize,
@@ -14,7 +14,7 @@ pub struct Partial {
 }
 
 // What a piece brought: the record, how many of the piece's bytes were used, and whether they made it whole.
-#[derive(Drop)]
+#[derive(Clone, Copy)]
 pub struct Gathered {
     pub partial: Partial,
     pub used: usize,

@@ -11,21 +11,21 @@ use records::partial::{Partial, begin, gather};
 use replay_trace::trace::{LENGTHS, Meaning, Said, call_of};
 
 // The channels as the records so far have left them, and the record that is being put together.
-#[derive(Drop)]
+#[derive(Clone, Copy)]
 pub struct Replay {
     pub channels: [Channel; 64],
     pub partial: Partial,
 }
 
 // A record's call, and what it answered.
-#[derive(Drop)]
+#[derive(Clone, Copy)]
 pub struct Reply {
     pub said: Said,
     pub answer: Answered,
 }
 
 // What a step came to: no record was whole yet, one was, or the replay is stopped, at this place.
-#[derive(Drop)]
+#[derive(Clone, Copy)]
 pub enum Outcome {
     Nothing,
     Replied(Reply),
@@ -33,7 +33,7 @@ pub enum Outcome {
 }
 
 // The replay after a step, and how many bytes of the piece it used.
-#[derive(Drop)]
+#[derive(Clone, Copy)]
 pub struct Stepped {
     pub state: Replay,
     pub used: usize,

@@ -14,14 +14,14 @@ use words::bytes::u8_at;
 pub const LENGTHS: [u8; 8] = [0, 23, 18, 18, 2, 27, 22, 22];
 
 // A call and the channel that it names.
-#[derive(Drop)]
+#[derive(Clone, Copy)]
 pub struct Said {
     pub channel: usize,
     pub call: Call,
 }
 
 // What a record says.
-#[derive(Drop)]
+#[derive(Clone, Copy)]
 pub enum Meaning {
     Nothing,
     Says(Said),

@@ -8,7 +8,7 @@ use borrow.Author.Tests.{lt-ltb, le-ltb, ltb-true, ltb-false, leb-true, leb-fals
 use lib.Arith.{mod-mul}
 use lib.Dec.{ltb, leb}
 use lib.ListN.{length, get_or}
-use native.Mathlib.Nat.{pow-succ', pow-le-pow_left, div-lt_iff_lt-mul, zero_div, zero-mod, mod-lt, mod-one, mod-eq_of_lt, not-suc-le-zero, add_assoc, mul_assoc, add-mul, zero-mul, zero-add, add-zero, pow-zero, mul-one}
+use native.Mathlib.Nat.{pow-succ', pow-le-pow_left, div-lt_iff_lt-mul, zero-div, zero-mod, mod-lt, mod-one, mod-eq_of_lt, not-suc-le-zero, add_assoc, mul_assoc, add-mul, zero-mul, zero-add, add-zero, pow-zero, mul-one}
 use native.Mathlib.Omega.{arith}
 use Rattle.words.specs.Facts.{IsLeast}
 use Rattle.words.proofs.BelowLaws.{least_here, is_least}
@@ -103,7 +103,7 @@ module _ (b n : ℕ) (base : 1 < b) (most : b ≤ 16) (word : n < 2 ^ 64) where
   zero_text z =
       let one-enough : places_of b n ≡ 1 = least_here (holds b n) 64 1 (omega arith) (lt-ltb n (b ^ 1) (omega (arith, power_some b n base 1))) in
       ap (λ (k : ℕ). digits b k n) one-enough
-      ∙ ap (λ (d : ℕ). glyph_of d ∷ []) (ap (λ (m : ℕ). m / b ^ 0 % b) z ∙ ap (λ (m : ℕ). m % b) (zero_div (b ^ 0)) ∙ zero-mod b)
+      ∙ ap (λ (d : ℕ). glyph_of d ∷ []) (ap (λ (m : ℕ). m / b ^ 0 % b) z ∙ ap (λ (m : ℕ). m % b) (zero-div (b ^ 0)) ∙ zero-mod b)
 
   no_longer : (k : ℕ) → 1 ≤ k → n < b ^ k → places_of b n ≤ k
   no_longer k h l = by (leb (places_of b n) k) refl

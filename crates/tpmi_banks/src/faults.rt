@@ -6,7 +6,7 @@ ghost use Rattle.tpmi_banks.specs.Faults.{Small, bank_of, bank_in, empty_bank, o
 use tpmi_entries::entry::{Entry, entry_at};
 
 // What an entry says of its bank: NumEntries instances of EntrySize 32-bit words each, in the bytes from start up to end.
-#[derive(Drop)]
+#[derive(Clone, Copy)]
 pub struct Bank {
     pub id: u64,
     pub instances: u64,

@@ -12,7 +12,7 @@ use tpmi_walk::walk::{Walked, walk};
 use words::bytes::u16_at;
 
 // So many entries of 8 bytes from `start` on, in the BAR capture with the number `bir`.
-#[derive(Drop)]
+#[derive(Clone, Copy)]
 pub struct Table {
     pub bir: u8,
     pub start: u32,
@@ -20,7 +20,7 @@ pub struct Table {
 }
 
 // What discovery answers, and each stage of it.
-#[derive(Drop)]
+#[derive(Clone, Copy)]
 pub enum Located {
     Table(Table),
     Refused(u8),

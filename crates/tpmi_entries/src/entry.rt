@@ -10,7 +10,7 @@ use stores::numbers::store_u64;
 use words::answers::Value;
 use words::bytes::u64_at;
 
-#[derive(Drop)]
+#[derive(Clone, Copy)]
 pub struct Entry {
     // TPMI_ID
     pub id: u64,
@@ -24,7 +24,7 @@ pub struct Entry {
     pub reserved: u64,
 }
 
-#[derive(Drop)]
+#[derive(Clone, Copy)]
 pub enum Decoded {
     Structure(Entry),
     Refused(u8),

@@ -9,7 +9,7 @@ use fields::bits::{field, with_field};
 use stores::numbers::store_u64;
 use words::bytes::u64_at;
 
-#[derive(Drop)]
+#[derive(Clone, Copy)]
 pub struct Vsec {
     pub identifier: u64,
     pub version: u64,
@@ -28,7 +28,7 @@ pub struct Vsec {
     pub offset: u64,
 }
 
-#[derive(Drop)]
+#[derive(Clone, Copy)]
 pub enum Decoded {
     Structure(Vsec),
     Refused(u8),

@@ -9,7 +9,7 @@ use fields::bits::field;
 use tpmi_structure::structure::{fixed_wrong, vsec_at};
 use words::bytes::{u16_at, u32_at};
 
-#[derive(Drop)]
+#[derive(Clone, Copy)]
 pub enum Walked {
     Taken(usize),
     Refused(u8),
@@ -26,7 +26,7 @@ pub fn number_of(seen: Walked) -> u8
 }
 
 // What one header says.
-#[derive(Drop)]
+#[derive(Clone, Copy)]
 enum Step {
     Stops(Walked),
     Goes(usize),

@@ -9,7 +9,7 @@ use fields::tables::word_of;
 use words::answers::Value;
 
 // A reserved field is named by its lowest bit.
-#[derive(Drop)]
+#[derive(Clone, Copy)]
 pub struct Advanced2 {
     // SLOPE_2, in S4.3
     pub slope: u64,

@@ -9,7 +9,7 @@ use fields::tables::word_of;
 use words::answers::Value;
 
 // A reserved field is named by its lowest bit.
-#[derive(Drop)]
+#[derive(Clone, Copy)]
 pub struct Control {
     // UFS_THROTTLE_MODE: 0 is ordered, 1 proportional
     pub mode: u64,

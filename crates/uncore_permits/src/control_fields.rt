@@ -30,7 +30,7 @@ pub const UTILIZATION_THRESHOLD: u64 = 2;
 pub const BANDWIDTH_THRESHOLD: u64 = 3;
 
 // Where a field stands: its lowest bit, and its bits; none where there is no such field.
-#[derive(Drop)]
+#[derive(Clone, Copy)]
 pub struct Extent {
     pub at: u32,
     pub width: u32,

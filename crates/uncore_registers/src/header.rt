@@ -9,7 +9,7 @@ use fields::tables::word_of;
 use words::answers::Value;
 
 // A reserved field is named by its lowest bit.
-#[derive(Drop)]
+#[derive(Clone, Copy)]
 pub struct Header {
     pub version: u64,
     // LOCAL_FABRIC_CLUSTER_ID_MASK: a bit for each fabric cluster

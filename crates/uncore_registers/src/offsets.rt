@@ -9,7 +9,7 @@ use fields::tables::word_of;
 use words::answers::Value;
 
 // 002 names the first alone, and document 02 the others.
-#[derive(Drop)]
+#[derive(Clone, Copy)]
 pub struct Offsets {
     // byte i: where local cluster i's registers start, in eights of bytes
     pub offset0: u64,
