@@ -50,19 +50,13 @@ pub loop-i-init : goal.loop-i-init
 loop-i-init c = let g = goes c in
     record {
       within = omega arith;
-      room = length_unmapped ℕ c.args.p.bytes 32 (search (c.well-formed.1.1.0.1.1.1.1.0, rules));
+      room = search rules;
       more = g.1;
       few = omega (arith, g.3, length_most c.args.table.now (kind_of c.args.p (get_or c.args.piece.now 0 0)));
       fits = g.2;
       long = g.3 ∙ ap (λ (q : Partial). length_of c.args.table.now (kind_of q (get_or c.args.piece.now 0 0))) (alike c.args.p g.0);
       left = refl;
     }
-
-pub bounds-bytes-held : goal.bounds-bytes-held
-bounds-bytes-held c = omega (arith, c.loop-i.invariant.more, c.loop-i.invariant.few)
-
-pub overflow_add-held : goal.overflow_add-held
-overflow_add-held c = omega (arith, c.loop-i.invariant.more, c.loop-i.invariant.few)
 
 pub returns-then-held-n : goal.returns-then-held-n
 returns-then-held-n c = let u = rule_of c.args.table.now c.args.limit in let q = going c.args.p.place c.loop-i.held c.loop-i.bytes in record { answer = c.held_now.ensures.answer

@@ -15,13 +15,13 @@ abbrev pub going : ℕ → ℕ → List ℕ → Partial
 going place held bytes = record { place = place; held = held; bytes = bytes; stopped = false }
 
 pub record Inv (table : List ℕ) (limit : ℕ) (piece : List ℕ) (n place : ℕ) (bytes₀ : List ℕ) (held₀ : ℕ) (bytes : List ℕ) (held i : ℕ) : Type 0 where
-  within : i ≤ length piece
-  room : length bytes ≡ 32
-  more : held < n
-  few : n ≤ 32
-  fits : place + n ≤ limit
-  long : n ≡ length_of table (kind_of (going place held bytes) (get_or piece i 0))
-  left : gathered (rule_of table limit) i (going place held bytes) (drop i piece) ≡ gathered (rule_of table limit) 0 (going place held₀ bytes₀) piece
+  pub within : i ≤ length piece
+  pub room : length bytes ≡ 32
+  pub more : held < n
+  pub few : n ≤ 32
+  pub fits : place + n ≤ limit
+  pub long : n ≡ length_of table (kind_of (going place held bytes) (get_or piece i 0))
+  pub left : gathered (rule_of table limit) i (going place held bytes) (drop i piece) ≡ gathered (rule_of table limit) 0 (going place held₀ bytes₀) piece
 
 abbrev pub invariant-loop-i : goal.invariant-loop-i
 invariant-loop-i l = Inv l.table l.limit l.piece l.n l.place l.initial.bytes l.initial.held l.bytes l.held l.i

@@ -1,0 +1,12 @@
+-- `energy_channel::channel::Channel::ask` meets its contract: open or not is its one test. Assumes nothing.
+use mathlib.Core.Path.{refl}
+use Rattle.energy_channel.specs.Channel.{values, taken}
+use Rattle.energy_channel.proofs.ChannelLaws.{flag, refuses, accepts, asks_22, asks_0}
+use Rattle.energy_channel.proofs.channel.Channel.ask.Goals as goal
+
+pub returns-then-is_open : goal.returns-then-is_open
+unfolding values taken
+returns-then-is_open c = let e = accepts _ _ (asks_0 _ (flag c.is_open.ensures.answer c.if-is_open.true)) refl refl in record { answer = e.0; kept = e.1 }
+
+pub returns : goal.returns
+returns c = let e = refuses _ _ 22 tt (asks_22 _ (flag c.is_open.ensures.answer c.if-is_open.false)) c.refused.ensures.WHOLE in record { answer = e.0; kept = e.1 }

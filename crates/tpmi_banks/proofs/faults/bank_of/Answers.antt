@@ -1,0 +1,8 @@
+-- `tpmi_banks::faults::bank_of` meets its contract: all sums stay far below 2 to the 64. Assumes nothing.
+use mathlib.Core.Path.{refl}
+use Rattle.tpmi_banks.specs.Faults.{bank_of}
+use Rattle.tpmi_banks.proofs.faults.bank_of.Goals as goal
+
+pub returns : goal.returns
+unfolding bank_of
+returns c = record { answer = refl }

@@ -1,0 +1,15 @@
+-- `uncore_registers::header::read` meets its contract: field by field. Assumes nothing.
+use Rattle.uncore_registers.specs.Header.{header_of}
+use Rattle.uncore_registers.proofs.header.read.Goals as goal
+
+pub returns : goal.returns
+unfolding header_of
+returns c = record { answer = rw (
+      c.field-7.ensures.answer,
+      c.field-6.ensures.answer,
+      c.field-5.ensures.answer,
+      c.field-4.ensures.answer,
+      c.field-3.ensures.answer,
+      c.field-2.ensures.answer,
+      c.field.ensures.answer,
+    ) }
