@@ -1,10 +1,21 @@
 -- `tpmi_banks::faults::clash` meets its contract: at each return the tests on the way decide. Assumes nothing.
 use mathlib.Core.Path.{◌≡◌, refl, sym, ◌∙◌}
-use mathlib.Core.Bool.{true, false}
+use mathlib.Core.Bool.{Bool, true, false, not, ◌&&◌}
 use borrow.Author.Tests.{eq-eqb, ne_eqb}
+use lib.Dec.{eqb}
 use Rattle.words.proofs.AnswerLaws.{first_skip, first_take, first_end}
-use Rattle.tpmi_banks.specs.Faults.{empty_bank, clash_of}
+use Rattle.tpmi_banks.specs.Faults.{empty_bank, overlap, repeats, meets, clash_of}
+use Rattle.tpmi_banks.specs.declared.faults.Bank.{Bank}
 use Rattle.tpmi_banks.proofs.faults.clash.Goals as goal
+
+module _ (a b : Bank) where
+  repeats-is : {x y : Bool} → empty_bank a ≡ x → eqb a.id b.id ≡ y → repeats a b ≡ (not x && y)
+  unfolding repeats
+  repeats-is p q = rw (p, q)
+
+  meets-is : {x y : Bool} → empty_bank a ≡ x → overlap a.start a.end b.start b.end ≡ y → meets a b ≡ (not x && y)
+  unfolding meets
+  meets-is p q = rw (p, q)
 
 filled : (c : goal.Then-earlier-b) → empty_bank c.args.earlier ≡ false
 filled c = sym c.empty.ensures.answer ∙ c.if-empty.false

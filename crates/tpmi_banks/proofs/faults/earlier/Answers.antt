@@ -11,6 +11,7 @@ use Rattle.tpmi_banks.specs.Faults.{bank_in, clash_of, repeats_at, meets_at}
 use Rattle.tpmi_banks.specs.declared.faults.Bank.{Bank}
 use Rattle.tpmi_banks.proofs.FaultLaws.{clash_repeats, clash_other, clash_meets, clash_none, sofar, sofar_more, sofar_same, earlier_ten, earlier_rest}
 use Rattle.tpmi_banks.proofs.faults.earlier.Goals as goal
+use Rattle.tpmi_banks.proofs.faults.earlier.Goals.{then-c-eq11, else-c-eq11}
 
 -- what this turn's call says, of the bank that the definition means
 clash-is : (c : goal.Then-c-eq10) → c.clash-c.result ≡ clash_of (bank_in c.args.bar.now c.args.table c.loop-j.j) c.args.b
@@ -30,8 +31,10 @@ pub loop-j-preserved : goal.loop-j-preserved
 loop-j-preserved c = let other : clash_of (bank_in c.args.bar.now c.args.table c.loop-j.j) c.args.b ≢ 10 = λ z. c.if-c-eq10.false (clash-is_2 c ∙ z) in (
       omega arith,
       any_more (repeats_at c.args.bar.now c.args.table c.args.b) c.loop-j.j c.loop-j.invariant.1 (clash_other _ _ other),
-      ⊎_elim (λ w. w.1 ∙ sym (sofar_more c.args.bar.now c.args.table c.args.b c.loop-j.j (clash_meets _ _ (sym (clash-is_2 c) ∙ w.0.taken))))
-          (λ w. w.1 ∙ c.loop-j.invariant.2 ∙ sym (sofar_same c.args.bar.now c.args.table c.args.b c.loop-j.j (clash_none _ _ other (λ z. w.0.left (clash-is_2 c ∙ z))))) c.if-c-eq11.branch,
+      elim c.if-c-eq11.branch [
+        then-c-eq11 w ↦ w.found-is ∙ sym (sofar_more c.args.bar.now c.args.table c.args.b c.loop-j.j (clash_meets _ _ (sym (clash-is_2 c) ∙ w.if-c-eq11.true)))
+      | else-c-eq11 w ↦ w.found-is ∙ c.loop-j.invariant.2 ∙ sym (sofar_same c.args.bar.now c.args.table c.args.b c.loop-j.j (clash_none _ _ other (λ z. w.if-c-eq11.false (clash-is_2 c ∙ z))))
+      ],
     )
 
 pub returns : goal.returns

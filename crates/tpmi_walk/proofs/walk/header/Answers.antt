@@ -7,6 +7,7 @@ use Rattle.fields.proofs.FieldLaws.{field_lt}
 use Rattle.tpmi_walk.specs.Walk.{stops, followed, identifier_at, next_at, vsec_id_at}
 use Rattle.tpmi_walk.proofs.WalkLaws.{header_cut, header_tpmi, header_other_id, header_other}
 use Rattle.tpmi_walk.proofs.walk.header.Goals as goal
+use Rattle.tpmi_walk.proofs.walk.header.Goals.{then-identifier-eq11+else-at-gt4088+else-u16_at-eq66, else-identifier-eq11}
 
 -- what was read is what the definition reads
 identifier : (c : goal.Then-at-gt4088) → c.field-identifier.result ≡ identifier_at c.args.config.now c.args.at
@@ -41,4 +42,7 @@ follow-requires c = omega (arith, c.field-next.ensures.answer, field_lt 20 12 c.
 pub returns : goal.returns
 unfolding vsec_id_at
 returns c = record { answer = c.follow.ensures.answer ∙ ap followed (next c)
-          ∙ sym (⊎_elim (λ w. header_other_id c.args.config.now c.args.at w.1.left (λ z. w.3.left (w.2.ensures ∙ z))) (λ w. header_other c.args.config.now c.args.at (λ z. w.left (identifier_3 c ∙ z))) c.if-identifier-eq11.branch); within = c.follow.ensures.within }
+          ∙ sym (elim c.if-identifier-eq11.branch [
+            then-identifier-eq11+else-at-gt4088+else-u16_at-eq66 w ↦ header_other_id c.args.config.now c.args.at w.if-at-gt4088.false (λ z. w.if-u16_at-eq66.false (w.u16_at.ensures.answer ∙ z))
+          | else-identifier-eq11 w ↦ header_other c.args.config.now c.args.at (λ z. w.if-identifier-eq11.false (identifier_3 c ∙ z))
+          ]); within = c.follow.ensures.within }

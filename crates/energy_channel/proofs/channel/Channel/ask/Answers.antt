@@ -9,4 +9,4 @@ unfolding values taken
 returns-then-is_open c = let e = accepts _ _ (asks_0 _ (flag c.is_open.ensures.answer c.if-is_open.true)) refl refl in record { answer = e.0; kept = e.1 }
 
 pub returns : goal.returns
-returns c = let e = refuses _ _ 22 tt (asks_22 _ (flag c.is_open.ensures.answer c.if-is_open.false)) c.refused.ensures.WHOLE in record { answer = e.0; kept = e.1 }
+returns c = let e = refuses _ _ 22 tt (asks_22 _ (flag c.is_open.ensures.answer c.if-is_open.false)) (c.refused.ensures.answer, c.refused.ensures.kept) in record { answer = e.0; kept = e.1 }

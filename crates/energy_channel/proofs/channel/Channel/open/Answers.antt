@@ -14,7 +14,7 @@ closed-here_2 : (c : goal.After-refused-2) → is_open c.args.self ≡ false
 closed-here_2 c = flag c.is_open.ensures.answer c.if-is_open.false
 
 pub returns-then-is_open : goal.returns-then-is_open
-returns-then-is_open c = let e = refuses _ _ 22 tt (opens_22 _ _ (flag c.is_open.ensures.answer c.if-is_open.true)) c.refused.ensures.WHOLE in record { answer = e.0; kept = e.1 }
+returns-then-is_open c = let e = refuses _ _ 22 tt (opens_22 _ _ (flag c.is_open.ensures.answer c.if-is_open.true)) (c.refused.ensures.answer, c.refused.ensures.kept) in record { answer = e.0; kept = e.1 }
 
 pub returns-then-in_range : goal.returns-then-in_range
 unfolding values taken
@@ -23,4 +23,4 @@ returns-then-in_range c = let e = accepts _ _ (opens_0 _ _ (closed-here c) (flag
 
 pub returns : goal.returns
 returns c = let e = refuses _ _ 17 tt (opens_17 _ _ (closed-here_2 c) (flag c.in_range.ensures.answer c.if-in_range.false))
-    c.refused-2.ensures.WHOLE in record { answer = e.0; kept = e.1 }
+    (c.refused-2.ensures.answer, c.refused-2.ensures.kept) in record { answer = e.0; kept = e.1 }

@@ -16,7 +16,7 @@ unfolding values taken
 returns-then-seen-self c = let e = accepts _ _ (resumes_0 _ _ (open-here c) c.if-seen-self.true) refl c.noted.ensures.answer in record { answer = e.0; kept = e.1 }
 
 pub returns-then-is_open : goal.returns-then-is_open
-returns-then-is_open c = let e = refuses _ _ 20 tt (resumes_20 _ _ (open-here_2 c) c.if-seen-self.false) c.refused.ensures.WHOLE in record { answer = e.0; kept = e.1 }
+returns-then-is_open c = let e = refuses _ _ 20 tt (resumes_20 _ _ (open-here_2 c) c.if-seen-self.false) (c.refused.ensures.answer, c.refused.ensures.kept) in record { answer = e.0; kept = e.1 }
 
 pub returns : goal.returns
-returns c = let e = refuses _ _ 22 tt (resumes_22 _ _ (flag c.is_open.ensures.answer c.if-is_open.false)) c.refused-2.ensures.WHOLE in record { answer = e.0; kept = e.1 }
+returns c = let e = refuses _ _ 22 tt (resumes_22 _ _ (flag c.is_open.ensures.answer c.if-is_open.false)) (c.refused-2.ensures.answer, c.refused-2.ensures.kept) in record { answer = e.0; kept = e.1 }
