@@ -2,12 +2,12 @@
 -- left. Assumes nothing.
 use Prim.Native.Nat.{ℕ, ◌*◌, ◌^◌, ◌%◌}
 use mathlib.Core.Path.{refl, sym, ap, ◌∙◌}
-use mathlib.Core.Logic.{⊎_elim}
 use native.Mathlib.Omega.{arith}
 use lib.Bits.{bit_or}
 use Rattle.fields.specs.Masks.{mask_of}
 use Rattle.fields.proofs.MaskLaws.{mask_set, mask_skip}
 use Rattle.tpmi_counts.proofs.valid.mask.Goals as goal
+use Rattle.tpmi_counts.proofs.valid.mask.Goals.{then-valid_at, else-valid_at}
 
 pub loop-k-init : goal.loop-k-init
 unfolding mask_of
@@ -16,6 +16,8 @@ loop-k-init c = (omega arith, refl)
 pub loop-k-preserved : goal.loop-k-preserved
 loop-k-preserved c = (
       omega arith,
-      ⊎_elim (λ w. w.1 ∙ ap (λ (x : ℕ). bit_or x ((1 * 2 ^ c.loop-k.k) % 2 ^ 64)) c.loop-k.invariant.1 ∙ mask_set _ c.loop-k.k (omega arith) (sym c.valid_at.ensures.answer ∙ w.0.taken))
-          (λ w. w.1 ∙ c.loop-k.invariant.1 ∙ mask_skip _ c.loop-k.k (sym c.valid_at.ensures.answer ∙ w.0.left)) c.if-valid_at.branch,
+      elim c.if-valid_at.branch [
+        then-valid_at w ↦ w.bits-is ∙ ap (λ (x : ℕ). bit_or x ((1 * 2 ^ c.loop-k.k) % 2 ^ 64)) c.loop-k.invariant.1 ∙ mask_set _ c.loop-k.k (omega arith) (sym c.valid_at.ensures.answer ∙ w.if-valid_at.true)
+      | else-valid_at w ↦ w.bits-is ∙ c.loop-k.invariant.1 ∙ mask_skip _ c.loop-k.k (sym c.valid_at.ensures.answer ∙ w.if-valid_at.false)
+      ],
     )
