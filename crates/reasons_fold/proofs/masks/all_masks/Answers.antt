@@ -5,12 +5,8 @@ use Rattle.words.specs.Below.{any_below}
 use Rattle.fields.specs.Bits.{field}
 use Rattle.fields.specs.Masks.{mask_of}
 use Rattle.reasons_fold.specs.Fold.{belongs, reached_from, entry_of, entries_from, table}
-use Rattle.reasons_fold.proofs.masks.all_masks.Statement.{statement}
-use Rattle.reasons_fold.proofs.masks.all_masks.Tie as tie
+use Rattle.reasons_fold.proofs.masks.all_masks.Goals as goal
 
-returns : tie.Need-returns
+pub returns : goal.returns
 unfolding table entries_from entry_of reached_from belongs mask_of field any_below
-returns c = refl
-
-pub all-masks-spec : {M : Type 1} → statement M
-all-masks-spec = tie.close (tie.spec returns)
+returns c = record { answer = refl }
