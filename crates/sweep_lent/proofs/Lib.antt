@@ -1,4 +1,1 @@
 mod Copied
-mod Rows
-mod Relends
-mod Channels
