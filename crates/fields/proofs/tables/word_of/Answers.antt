@@ -24,13 +24,15 @@ returns-then-field-v c = let wide = wider_at c.args.widths.now c.args.values.now
 
 pub loop-i-preserved : goal.loop-i-preserved
 loop-i-preserved c = let fits = held_fits (get_or c.args.widths.now c.loop-i.i 0) (get_or c.args.values.now c.loop-i.i 0) c.field.ensures.answer c.if-field-v.false in (
-      omega arith,
-      omega arith,
-      omega (arith, total_next c.args.widths.now c.args.values.now c.loop-i.i (omega arith)),
-      wider_next c.args.widths.now c.args.values.now c.loop-i.i (omega arith) (omega arith) fits ∙ c.loop-i.invariant.3,
-      with_next c.args.widths.now c.args.values.now c.loop-i.i (omega arith) (omega arith) 64 c.loop-i.at c.loop-i.word (omega arith) c.with_field-word.ensures.answer ∙ c.loop-i.invariant.4,
-    )
+  omega arith,
+  omega arith,
+  omega (arith, total_next c.args.widths.now c.args.values.now c.loop-i.i (omega arith)),
+  wider_next c.args.widths.now c.args.values.now c.loop-i.i (omega arith) (omega arith) fits ∙ c.loop-i.invariant.3,
+  with_next c.args.widths.now c.args.values.now c.loop-i.i (omega arith) (omega arith) 64 c.loop-i.at c.loop-i.word (omega arith) c.with_field-word.ensures.answer ∙ c.loop-i.invariant.4,
+)
 
 pub returns : goal.returns
-returns c = record { answer = ap (λ (x : ℕ). gives (x ∷ [])) (sym (with_end c.args.widths.now c.args.values.now c.loop-i.i (omega arith) c.loop-i.at c.loop-i.word) ∙ c.loop-i.invariant.4)
-    ∙ sym (word_right c.args.widths.now c.args.values.now c.if-widths-values.false (omega (arith, total_end c.args.widths.now c.args.values.now c.loop-i.i (omega arith))) (sym c.loop-i.invariant.3 ∙ wider_end c.args.widths.now c.args.values.now c.loop-i.i (omega arith))) }
+returns c = record {
+  answer = ap (λ (x : ℕ). gives (x ∷ [])) (sym (with_end c.args.widths.now c.args.values.now c.loop-i.i (omega arith) c.loop-i.at c.loop-i.word) ∙ c.loop-i.invariant.4)
+      ∙ sym (word_right c.args.widths.now c.args.values.now c.if-widths-values.false (omega (arith, total_end c.args.widths.now c.args.values.now c.loop-i.i (omega arith))) (sym c.loop-i.invariant.3 ∙ wider_end c.args.widths.now c.args.values.now c.loop-i.i (omega arith)));
+}

@@ -54,6 +54,8 @@ pub returns-then-input-end : goal.returns-then-input-end
 returns-then-input-end c = record { answer = sym (layout_none c.args.input.now (input_short c.args.input.now (omega (arith, first-is_3 c, second_is_2 c, c.if-input-end.true)))) }
 
 pub returns : goal.returns
-returns c = let e = first-is_4 c in let g = second_is_3 c in let whole = input_whole c.args.input.now (omega (arith, e, c.if-first-gt65536.false)) (omega (arith, g, c.if-second-gt65536.false)) (omega (arith, e, g, c.if-input-end.false)) in record { answer = ap₂ (λ (x y : ℕ). x ∷ (4101 + c.u32_at-first.result) ∷ y ∷ (4101 + c.u32_at-first.result + 5 + c.u32_at-second.result) ∷ []) c.u8_at.ensures.answer c.u8_at-2.ensures.answer
-    ∙ ap₂ (λ (x y : ℕ). number_at c.args.input.now 4096 1 ∷ (4101 + x) ∷ number_at c.args.input.now (4101 + x) 1 ∷ (4101 + x + 5 + y) ∷ []) e g
-    ∙ sym (layout_there c.args.input.now whole) }
+returns c = let e = first-is_4 c in let g = second_is_3 c in let whole = input_whole c.args.input.now (omega (arith, e, c.if-first-gt65536.false)) (omega (arith, g, c.if-second-gt65536.false)) (omega (arith, e, g, c.if-input-end.false)) in record {
+  answer = ap₂ (λ (x y : ℕ). x ∷ (4101 + c.u32_at-first.result) ∷ y ∷ (4101 + c.u32_at-first.result + 5 + c.u32_at-second.result) ∷ []) c.u8_at.ensures.answer c.u8_at-2.ensures.answer
+      ∙ ap₂ (λ (x y : ℕ). number_at c.args.input.now 4096 1 ∷ (4101 + x) ∷ number_at c.args.input.now (4101 + x) 1 ∷ (4101 + x + 5 + y) ∷ []) e g
+      ∙ sym (layout_there c.args.input.now whole);
+}

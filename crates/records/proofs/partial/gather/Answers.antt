@@ -1,12 +1,12 @@
 -- `records::partial::gather` meets its contract. The invariant: the record is not whole, its kind's length is n, and what is left to gather gives the answer.
 -- The measure is what is left of the piece.
 -- Assumes nothing.
-use Prim.Native.Nat.{ℕ, ◌+◌, ◌≤◌, ◌<◌}
+use Prim.Native.Nat.{◌+◌, ◌≤◌, ◌<◌}
 use mathlib.Core.Path.{◌≡◌, refl, sym, ap, ◌∙◌}
 use mathlib.Core.Bool.{Bool, true, false}
 use lib.ListN.{length, get_or, drop, length-set, length-drop}
 use native.Mathlib.Omega.{arith}
-use borrow.Author.Rules.{rules, length_unmapped}
+use borrow.Author.Rules.{rules}
 use Rattle.records.specs.declared.partial.Partial.{Partial}
 use Rattle.records.specs.Partial.{rule_of, length_of, kind_of, cannot, gathered}
 use Rattle.records.proofs.PartialLaws.{length_most, can_come, gathered_end, gathered_halts, turn_whole, turn_more, turn_kind}
@@ -43,8 +43,10 @@ returns-then-many-eq0 c = record { answer = gathered_end (rule_of c.args.table.n
 
 pub returns-then-cannot : goal.returns-then-cannot
 returns-then-cannot c = let u = rule_of c.args.table.now c.args.limit in let k : cannot u c.args.p (kind_of c.args.p (get_or c.args.piece.now 0 0)) ≡ true =
-    ap (cannot u c.args.p) (sym c.kind-kind.ensures.answer) ∙ sym c.cannot.ensures.answer ∙ c.if-cannot.true in record { answer = ap (λ (q : Partial). record { partial = q; used = length c.args.piece.now; whole = false }) c.halt.ensures.answer
-    ∙ gathered_halts u c.args.p c.args.piece.now (omega (arith, c.if-many-eq0.false)) k }
+    ap (cannot u c.args.p) (sym c.kind-kind.ensures.answer) ∙ sym c.cannot.ensures.answer ∙ c.if-cannot.true in record {
+      answer = ap (λ (q : Partial). record { partial = q; used = length c.args.piece.now; whole = false }) c.halt.ensures.answer
+          ∙ gathered_halts u c.args.p c.args.piece.now (omega (arith, c.if-many-eq0.false)) k;
+    }
 
 pub loop-i-init : goal.loop-i-init
 loop-i-init c = let g = goes c in
@@ -59,10 +61,12 @@ loop-i-init c = let g = goes c in
     }
 
 pub returns-then-held-n : goal.returns-then-held-n
-returns-then-held-n c = let u = rule_of c.args.table.now c.args.limit in let q = going c.args.p.place c.loop-i.held c.loop-i.bytes in record { answer = c.held_now.ensures.answer
-    ∙ turn_whole u c.args.piece.now c.loop-i.i q c.length_of-n.result (omega (arith, c.loop-i-test.true)) c.loop-i.invariant.long refl (omega (arith, c.loop-i.invariant.room)) c.loop-i.invariant.more c.loop-i.invariant.fits c.if-held-n.true
-    ∙ c.loop-i.invariant.left
-    ∙ ap (λ (x : Partial). gathered u 0 x c.args.piece.now) (sym (alike c.args.p (goes_2 c).0)) }
+returns-then-held-n c = let u = rule_of c.args.table.now c.args.limit in let q = going c.args.p.place c.loop-i.held c.loop-i.bytes in record {
+  answer = c.held_now.ensures.answer
+      ∙ turn_whole u c.args.piece.now c.loop-i.i q c.length_of-n.result (omega (arith, c.loop-i-test.true)) c.loop-i.invariant.long refl (omega (arith, c.loop-i.invariant.room)) c.loop-i.invariant.more c.loop-i.invariant.fits c.if-held-n.true
+      ∙ c.loop-i.invariant.left
+      ∙ ap (λ (x : Partial). gathered u 0 x c.args.piece.now) (sym (alike c.args.p (goes_2 c).0));
+}
 
 pub loop-i-preserved : goal.loop-i-preserved
 loop-i-preserved c = let u = rule_of c.args.table.now c.args.limit in
@@ -80,7 +84,9 @@ loop-i-preserved c = let u = rule_of c.args.table.now c.args.limit in
     }
 
 pub returns : goal.returns
-returns c = let u = rule_of c.args.table.now c.args.limit in let q = going c.args.p.place c.loop-i.held c.loop-i.bytes in record { answer = c.held_now-2.ensures.answer
-    ∙ gathered_end u c.loop-i.i q (drop c.loop-i.i c.args.piece.now) (omega (arith, length-drop c.loop-i.i c.args.piece.now, c.loop-i-test.false))
-    ∙ c.loop-i.invariant.left
-    ∙ ap (λ (x : Partial). gathered u 0 x c.args.piece.now) (sym (alike c.args.p (goes_3 c).0)) }
+returns c = let u = rule_of c.args.table.now c.args.limit in let q = going c.args.p.place c.loop-i.held c.loop-i.bytes in record {
+  answer = c.held_now-2.ensures.answer
+      ∙ gathered_end u c.loop-i.i q (drop c.loop-i.i c.args.piece.now) (omega (arith, length-drop c.loop-i.i c.args.piece.now, c.loop-i-test.false))
+      ∙ c.loop-i.invariant.left
+      ∙ ap (λ (x : Partial). gathered u 0 x c.args.piece.now) (sym (alike c.args.p (goes_3 c).0));
+}

@@ -16,11 +16,11 @@ overflow_add-at c = omega (arith, room c)
 
 pub loop-i-preserved : goal.loop-i-preserved
 loop-i-preserved c = (
-      omega arith,
-      omega (arith, room c),
-      simp length-set c.loop-i.invariant.2,
-      numbers_turn c.args.widths c.loop-i.i c.args.bytes.now c.loop-i.values c.loop-i.at (omega arith) (omega arith) c.number_at.ensures.answer c.size_of-at.ensures.answer ∙ c.loop-i.invariant.3,
-    )
+  omega arith,
+  omega (arith, room c),
+  simp length-set c.loop-i.invariant.2,
+  numbers_turn c.args.widths c.loop-i.i c.args.bytes.now c.loop-i.values c.loop-i.at (omega arith) (omega arith) c.number_at.ensures.answer c.size_of-at.ensures.answer ∙ c.loop-i.invariant.3,
+)
 
 pub returns : goal.returns
 returns c = record { answer = numbers_end c.args.widths c.loop-i.i c.args.bytes.now c.loop-i.values c.loop-i.at (omega arith) (omega arith) ∙ c.loop-i.invariant.3 }

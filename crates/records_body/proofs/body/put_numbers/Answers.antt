@@ -17,11 +17,11 @@ overflow_add-at c = omega (arith, room c)
 
 pub loop-i-preserved : goal.loop-i-preserved
 loop-i-preserved c = (
-      omega arith,
-      omega (arith, room c),
-      ap length c.put_number.ensures.kept ∙ length_stored c.loop-i.bytes c.loop-i.at _ _ ∙ c.loop-i.invariant.2,
-      stores_turn c.args.widths c.loop-i.i c.args.values c.loop-i.bytes c.loop-i.at (omega arith) (omega arith) c.put_number.ensures.kept c.size_of-at.ensures.answer ∙ c.loop-i.invariant.3,
-    )
+  omega arith,
+  omega (arith, room c),
+  ap length c.put_number.ensures.kept ∙ length_stored c.loop-i.bytes c.loop-i.at _ _ ∙ c.loop-i.invariant.2,
+  stores_turn c.args.widths c.loop-i.i c.args.values c.loop-i.bytes c.loop-i.at (omega arith) (omega arith) c.put_number.ensures.kept c.size_of-at.ensures.answer ∙ c.loop-i.invariant.3,
+)
 
 pub returns : goal.returns
 returns c = record { kept = stores_end c.args.widths c.loop-i.i c.args.values c.loop-i.bytes c.loop-i.at (omega arith) ∙ c.loop-i.invariant.3 }

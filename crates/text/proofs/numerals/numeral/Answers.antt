@@ -25,16 +25,19 @@ loop-i-init c = (omega arith, none_left c.args.base c.args.n c.places-many.resul
 
 pub loop-i-preserved : goal.loop-i-preserved
 loop-i-preserved c = let e : c.places-many.result - (c.loop-i.i - 1) ≡ (c.places-many.result - c.loop-i.i) + 1 = omega arith in (
-      omega arith,
-      ap (λ (x : ℕ). x / c.args.base) c.loop-i.invariant.1
-          ∙ rest_turn c.args.base c.args.n c.requires.0 (c.places-many.result - c.loop-i.i)
-          ∙ ap (λ (m : ℕ). c.args.n / c.args.base ^ m) (sym e),
-      rw (c.loop-i.invariant.2, c.glyph.ensures.answer, c.loop-i.invariant.1) (digit_turn c.args.page.now c.args.at c.places-many.result c.args.base c.args.n (omega arith) c.loop-i.i (omega arith) (omega arith)),
-      simp length-set c.loop-i.invariant.3,
-    )
+  omega arith,
+  ap (λ (x : ℕ). x / c.args.base) c.loop-i.invariant.1
+      ∙ rest_turn c.args.base c.args.n c.requires.0 (c.places-many.result - c.loop-i.i)
+      ∙ ap (λ (m : ℕ). c.args.n / c.args.base ^ m) (sym e),
+  rw (c.loop-i.invariant.2, c.glyph.ensures.answer, c.loop-i.invariant.1) (digit_turn c.args.page.now c.args.at c.places-many.result c.args.base c.args.n (omega arith) c.loop-i.i (omega arith) (omega arith)),
+  simp length-set c.loop-i.invariant.3,
+)
 
 pub returns : goal.returns
-returns c = let e : length (numeral_of c.args.base c.args.n) ≡ c.places-many.result = long _ _ c.places-many.ensures.answer in let z : c.loop-i.i ≡ 0 = omega arith in record { answer = ap (λ (m : ℕ). c.args.at + m) (sym e) ∙ sym (after_fits c.args.page.now c.args.at (numeral_of c.args.base c.args.n) (omega arith)); kept = c.loop-i.invariant.2
-          ∙ ap (digits_from c.args.page.now c.args.at c.places-many.result c.args.base c.args.n) z
-          ∙ digits_all c.args.page.now c.args.at c.places-many.result c.args.base c.args.n (omega arith)
-          ∙ ap (λ (m : ℕ). over c.args.page.now c.args.at (digits c.args.base m c.args.n)) c.places-many.ensures.answer }
+returns c = let e : length (numeral_of c.args.base c.args.n) ≡ c.places-many.result = long _ _ c.places-many.ensures.answer in let z : c.loop-i.i ≡ 0 = omega arith in record {
+  answer = ap (λ (m : ℕ). c.args.at + m) (sym e) ∙ sym (after_fits c.args.page.now c.args.at (numeral_of c.args.base c.args.n) (omega arith));
+  kept = c.loop-i.invariant.2
+      ∙ ap (digits_from c.args.page.now c.args.at c.places-many.result c.args.base c.args.n) z
+      ∙ digits_all c.args.page.now c.args.at c.places-many.result c.args.base c.args.n (omega arith)
+      ∙ ap (λ (m : ℕ). over c.args.page.now c.args.at (digits c.args.base m c.args.n)) c.places-many.ensures.answer;
+}

@@ -16,10 +16,10 @@ returns-then-page-many-2 c = record { answer = sym (after_short c.args.page.now 
 
 pub loop-i-preserved : goal.loop-i-preserved
 loop-i-preserved c = (
-      omega arith,
-      rw (c.loop-i.invariant.1, add-one) (paste-suc c.args.page.now c.args.at c.args.words.now c.loop-i.i 0 (omega arith) (omega arith)),
-      simp length-set c.loop-i.invariant.2,
-    )
+  omega arith,
+  rw (c.loop-i.invariant.1, add-one) (paste-suc c.args.page.now c.args.at c.args.words.now c.loop-i.i 0 (omega arith) (omega arith)),
+  simp length-set c.loop-i.invariant.2,
+)
 
 pub returns : goal.returns
 returns c = let e : length c.args.words.now ≡ c.loop-i.i = omega arith in record { answer = sym (after_fits c.args.page.now c.args.at c.args.words.now (omega arith)); kept = c.loop-i.invariant.1 ∙ pasted c.args.page.now c.args.at c.args.words.now c.loop-i.i e (omega arith) }

@@ -4,11 +4,13 @@ use Rattle.tpmi_structure.proofs.structure.low_word.Goals as goal
 
 pub returns : goal.returns
 unfolding with_fields
-returns c = record { answer = rw (
-      c.with_field.ensures.answer,
-      c.with_field-e.ensures.answer,
-      c.with_field-d.ensures.answer,
-      c.with_field-c.ensures.answer,
-      c.with_field-b.ensures.answer,
-      c.with_field-a.ensures.answer,
-    ) }
+returns c = record {
+  answer = rw (
+    c.with_field.ensures.answer,
+    c.with_field-e.ensures.answer,
+    c.with_field-d.ensures.answer,
+    c.with_field-c.ensures.answer,
+    c.with_field-b.ensures.answer,
+    c.with_field-a.ensures.answer,
+  );
+}

@@ -8,17 +8,19 @@ pub overflow_mul-result : goal.overflow_mul-result
 overflow_mul-result c = omega (arith, field_lt 35 29 c.args.high)
 
 pub returns : goal.returns
-returns c = record { answer = rw (
-      of_two_words c.args.low c.args.high c.ranges.low.fits,
-      c.field-11.ensures.answer,
-      c.field-10.ensures.answer,
-      c.field-9.ensures.answer,
-      c.field-8.ensures.answer,
-      c.field-7.ensures.answer,
-      c.field-6.ensures.answer,
-      c.field-5.ensures.answer,
-      c.field-4.ensures.answer,
-      c.field-3.ensures.answer,
-      c.field-2.ensures.answer,
-      c.field.ensures.answer,
-    ) }
+returns c = record {
+  answer = rw (
+    of_two_words c.args.low c.args.high c.ranges.low.fits,
+    c.field-11.ensures.answer,
+    c.field-10.ensures.answer,
+    c.field-9.ensures.answer,
+    c.field-8.ensures.answer,
+    c.field-7.ensures.answer,
+    c.field-6.ensures.answer,
+    c.field-5.ensures.answer,
+    c.field-4.ensures.answer,
+    c.field-3.ensures.answer,
+    c.field-2.ensures.answer,
+    c.field.ensures.answer,
+  );
+}

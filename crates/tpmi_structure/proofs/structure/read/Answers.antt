@@ -13,5 +13,7 @@ pub returns-then-fixed_wrong : goal.returns-then-fixed_wrong
 returns-then-fixed_wrong c = record { answer = sym (read_wrong c.args.part.now c.if-part-lt16.false (ap fixed_wrong (sym c.vsec_at-v.ensures.answer) ∙ sym c.fixed_wrong.ensures.answer ∙ c.if-fixed_wrong.true)) }
 
 pub returns : goal.returns
-returns c = record { answer = ap (λ (v : Vsec). gives (numbers v)) c.vsec_at-v.ensures.answer
-    ∙ sym (read_right c.args.part.now c.if-part-lt16.false (ap fixed_wrong (sym c.vsec_at-v.ensures.answer) ∙ sym c.fixed_wrong.ensures.answer ∙ c.if-fixed_wrong.false)) }
+returns c = record {
+  answer = ap (λ (v : Vsec). gives (numbers v)) c.vsec_at-v.ensures.answer
+      ∙ sym (read_right c.args.part.now c.if-part-lt16.false (ap fixed_wrong (sym c.vsec_at-v.ensures.answer) ∙ sym c.fixed_wrong.ensures.answer ∙ c.if-fixed_wrong.false));
+}

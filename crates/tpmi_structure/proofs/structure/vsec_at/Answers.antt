@@ -9,5 +9,7 @@ pub returns-then-s-at : goal.returns-then-s-at
 returns-then-s-at c = record { answer = c.of_words.ensures.answer ∙ sym (vsec_at_past c.args.s.now c.args.at c.if-s-at.true) }
 
 pub returns : goal.returns
-returns c = record { answer = c.of_words-2.ensures.answer ∙ ap₂ (λ (x y : ℕ). vsec_of (y * 2 ^ 64 + x)) c.u64_at.ensures.answer c.u64_at-2.ensures.answer
-    ∙ sym (vsec_at_words c.args.s.now c.args.at) }
+returns c = record {
+  answer = c.of_words-2.ensures.answer ∙ ap₂ (λ (x y : ℕ). vsec_of (y * 2 ^ 64 + x)) c.u64_at.ensures.answer c.u64_at-2.ensures.answer
+      ∙ sym (vsec_at_words c.args.s.now c.args.at);
+}

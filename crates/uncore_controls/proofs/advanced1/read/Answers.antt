@@ -4,8 +4,10 @@ use Rattle.uncore_controls.proofs.advanced1.read.Goals as goal
 
 pub returns : goal.returns
 unfolding advanced1_of
-returns c = record { answer = rw (
-      c.field-3.ensures.answer,
-      c.field-2.ensures.answer,
-      c.field.ensures.answer,
-    ) }
+returns c = record {
+  answer = rw (
+    c.field-3.ensures.answer,
+    c.field-2.ensures.answer,
+    c.field.ensures.answer,
+  );
+}

@@ -4,10 +4,12 @@ use Rattle.uncore_controls.proofs.advanced2.read.Goals as goal
 
 pub returns : goal.returns
 unfolding advanced2_of
-returns c = record { answer = rw (
-      c.field-5.ensures.answer,
-      c.field-4.ensures.answer,
-      c.field-3.ensures.answer,
-      c.field-2.ensures.answer,
-      c.field.ensures.answer,
-    ) }
+returns c = record {
+  answer = rw (
+    c.field-5.ensures.answer,
+    c.field-4.ensures.answer,
+    c.field-3.ensures.answer,
+    c.field-2.ensures.answer,
+    c.field.ensures.answer,
+  );
+}

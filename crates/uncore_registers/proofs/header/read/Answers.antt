@@ -4,12 +4,14 @@ use Rattle.uncore_registers.proofs.header.read.Goals as goal
 
 pub returns : goal.returns
 unfolding header_of
-returns c = record { answer = rw (
-      c.field-7.ensures.answer,
-      c.field-6.ensures.answer,
-      c.field-5.ensures.answer,
-      c.field-4.ensures.answer,
-      c.field-3.ensures.answer,
-      c.field-2.ensures.answer,
-      c.field.ensures.answer,
-    ) }
+returns c = record {
+  answer = rw (
+    c.field-7.ensures.answer,
+    c.field-6.ensures.answer,
+    c.field-5.ensures.answer,
+    c.field-4.ensures.answer,
+    c.field-3.ensures.answer,
+    c.field-2.ensures.answer,
+    c.field.ensures.answer,
+  );
+}
