@@ -1,5 +1,5 @@
 -- What is proved of the totals, for every list of calls. Each type is one theorem, to be read without its proof; proofs/Demand3 has a proof
--- of each under the same name with hyphens.
+-- of each under the same name with underscores.
 -- Assumes nothing.
 use Rattle.std.specs.Prelude.{ℕ, ◌<◌, ◌≡◌, List, [], ◌∷◌, ltb}
 use Rattle.words.specs.Answers.{Answer, gives, unless, first}

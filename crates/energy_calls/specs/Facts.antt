@@ -1,5 +1,5 @@
 -- What is proved of what a call answers. The type is a theorem, to be read without its proof; proofs/Theorems has the proof, under the same
--- name with hyphens.
+-- name with underscores.
 -- Assumes nothing.
 use Rattle.words.specs.Facts.{Once}
 use Rattle.energy_calls.specs.Calls.{told}

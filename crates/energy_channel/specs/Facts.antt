@@ -1,5 +1,5 @@
 -- What is proved of one channel. Each record or type is one theorem, to be read without its proof; proofs/ has a proof of each under the
--- same name with hyphens: `ways` in Ways, the others in Theorems.
+-- same name with underscores: `ways` in Ways, the others in Theorems.
 -- Assumes nothing.
 use Rattle.std.specs.Prelude.{ℕ, ◌^◌, ◌-◌, ◌≤◌, ◌≡◌, ◌↔◌, true}
 use Rattle.energy_calls.specs.Calls.{told}

@@ -1,5 +1,5 @@
 -- What is proved of fields, of tables of widths and of masks, for every number and every list. Each record is one theorem, to be read without
--- its proof; proofs/Theorems.antt has a proof of each, under the same name with hyphens (ValueTrips, WordTrips: proofs/Structures.antt).
+-- its proof; proofs/Theorems.antt has a proof of each, under the same name with underscores (ValueTrips, WordTrips: proofs/Structures.antt).
 -- Assumes nothing.
 use Rattle.std.specs.Prelude.{ℕ, ◌+◌, ◌*◌, ◌%◌, ◌^◌, ◌≤◌, ◌<◌, ◌≡◌, ◌⊎◌, ◌↔◌, ◌≢◌, Bool, false, List, [], ◌∷◌, ◌++◌, length, get_or}
 use Rattle.std.specs.Int.Count.{ones}

@@ -1,5 +1,5 @@
 -- What is proved of the whole listing, for every input. Each is to be read without its proof; proofs/ListingFact.antt has the proofs, under
--- the same names with hyphens.
+-- the same names with underscores.
 -- Assumes nothing.
 use Rattle.std.specs.Prelude.{ℕ, ◌+◌, ◌≤◌, ◌≡◌, ◌≢◌, Bool, true, false, not, List, [], ◌∷◌, ◌++◌, eqb, length, take, drop}
 use Rattle.fields.specs.Masks.{one, how_many}

@@ -1,5 +1,5 @@
 -- What is proved of parent chains, for the bytes of every instance. To be read without its proof, which is in proofs/ChainFact.antt under the
--- same name with hyphens.
+-- same name with underscores.
 -- Assumes nothing.
 use Rattle.std.specs.Prelude.{ℕ, zero, suc, ◌≤◌, ◌<◌, ◌≡◌, List, [], ◌∷◌, ◌⊎◌, ◌↔◌, ◌≢◌}
 use Rattle.words.specs.Answers.{refused, gives}

@@ -1,5 +1,5 @@
 -- What is proved of domains, for the bytes of every instance. Each is to be read without its proof; the proofs stand
--- under the same names with hyphens: proofs/DomainFact.antt, proofs/SameHeaders.antt.
+-- under the same names with underscores: proofs/DomainFact.antt, proofs/SameHeaders.antt.
 -- Assumes nothing.
 use Rattle.std.specs.Prelude.{ℕ, ◌+◌, ◌*◌, ◌^◌, ◌≤◌, ◌<◌, ◌≡◌, List, ◌↔◌, ◌≢◌, length}
 use Rattle.words.specs.Answers.{gives}

@@ -1,5 +1,5 @@
 -- What is proved of the three lookups over every capture. To be read without its proof, which is in proofs/CaptureFact.antt under the same
--- name with hyphens.
+-- name with underscores.
 -- Assumes nothing.
 use Rattle.std.specs.Prelude.{ℕ, ◌≡◌, List, ◌≢◌}
 use Rattle.words.specs.Answers.{Answer, refused}

@@ -1,4 +1,4 @@
--- What is proved of units, for every number. To be read without its proof, which is in proofs/Theorems.antt under the same name with hyphens.
+-- What is proved of units, for every number. To be read without its proof, which is in proofs/Theorems.antt under the same name with underscores.
 -- Assumes nothing.
 use Rattle.fields.specs.Facts.{WordTrips}
 use Rattle.rapl_units.specs.Units.{widths, units_of, values}

@@ -1,5 +1,5 @@
 -- What is proved of window codes, for every number. Each is to be read without its proof; proofs/Order.antt (the order of codes)
--- and proofs/Theorems.antt (all others) have a proof of each, under the same name with hyphens.
+-- and proofs/Theorems.antt (all others) have a proof of each, under the same name with underscores.
 -- Assumes nothing.
 use Rattle.std.specs.Prelude.{ℕ, ◌+◌, ◌*◌, ◌%◌, ◌^◌, ◌≤◌, ◌<◌, ◌≡◌, ◌⊎◌, ◌↔◌, ◌≢◌, [], ◌∷◌}
 use Rattle.words.specs.Answers.{refused, gives}

@@ -1,5 +1,5 @@
 -- What is proved of the write of one field, for every number, instance and capture. Each is to be read without its proof; the proofs stand
--- under the same names with hyphens: proofs/NextFact.antt, proofs/WriteFact.antt, proofs/ReadBack.antt.
+-- under the same names with underscores: proofs/NextFact.antt, proofs/WriteFact.antt, proofs/ReadBack.antt.
 -- Assumes nothing.
 use Rattle.std.specs.Prelude.{ℕ, ◌+◌, ◌^◌, ◌≤◌, ◌<◌, ◌≡◌, List, [], ◌∷◌, ◌⊎◌, ◌↔◌, ◌≢◌, length, get_or}
 use Rattle.words.specs.Answers.{refused, gives}

@@ -1,5 +1,5 @@
 -- What is proved of the fold, for every number and every list. Each is to be read without its proof, which stands in proofs/BitRule.antt and
--- proofs/Entries.antt under the same name with hyphens.
+-- proofs/Entries.antt under the same name with underscores.
 -- Assumes nothing.
 use Rattle.std.specs.Prelude.{ℕ, ◌+◌, ◌*◌, ◌^◌, ◌≤◌, ◌<◌, ◌≡◌, ◌⊎◌, ◌↔◌, true, List, length, get_or}
 use Rattle.std.specs.Int.Bits.{bit_or}

@@ -1,6 +1,6 @@
 -- What is proved of the lines: which names a line of reasons has, how long each line can be, and that a page so long shows it whole
 -- (`LineFits` of the crate text). Each is to be read without its proof; proofs/NameLaws.antt has those of the first two, proofs/LineFits.antt
--- the others, under the same names with hyphens.
+-- the others, under the same names with underscores.
 -- Assumes nothing.
 use Rattle.std.specs.Prelude.{ℕ, ◌+◌, ◌^◌, ◌≤◌, ◌<◌, ◌≡◌, true, false, List, [], ◌∷◌, ◌++◌, ◌↔◌, length, get_or}
 use Rattle.fields.specs.Masks.{is_set}

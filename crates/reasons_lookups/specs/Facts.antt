@@ -1,5 +1,5 @@
 -- What is proved of the registers of the limit reasons over every capture. Each record is to be read without its proof, which is in
--- proofs/ByNameFact.antt under the same name with hyphens.
+-- proofs/ByNameFact.antt under the same name with underscores.
 -- Assumes nothing.
 use Rattle.std.specs.Prelude.{ℕ, ◌+◌, ◌*◌, ◌≤◌, ◌<◌, ◌≡◌, List, [], ◌∷◌, ◌↔◌, ◌≢◌}
 use Rattle.words.specs.Answers.{refused, gives}

@@ -1,6 +1,6 @@
 -- What is proved of the mailbox, for every number, every state and every list of tests. Each record is one theorem, to be read without its
 -- proof, which stands in proofs/Told.antt (one result), proofs/StepFact.antt (up to one step) or proofs/ExchangeFact.antt under the same name
--- with hyphens.
+-- with underscores.
 -- Assumes nothing.
 use Rattle.std.specs.Prelude.{ℕ, ◌+◌, ◌*◌, ◌^◌, ◌≤◌, ◌<◌, ◌≡◌, ◌⊎◌, ◌↔◌, true, false, List, ◌++◌, length}
 use Rattle.fields.specs.Bits.{bit}

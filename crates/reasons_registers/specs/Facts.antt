@@ -1,5 +1,5 @@
 -- What is proved of the registers of the limit reasons as values, for every number. To be read without its proof, which is in
--- proofs/Theorems.antt under the same name with hyphens.
+-- proofs/Theorems.antt under the same name with underscores.
 -- Assumes nothing.
 use Rattle.fields.specs.Facts.{WordTrips}
 use Rattle.reasons_registers.specs.PlrHeader as header

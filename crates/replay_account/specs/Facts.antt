@@ -1,5 +1,5 @@
 -- What is proved of a replay, for every trace and in any cuts. Each record or type is one theorem, to be read without its proof; proofs/ has a
--- proof of each, under the same name with hyphens: Steps, Faithful, Calls, Splits, Traces, and the rest in Theorems.
+-- proof of each, under the same name with underscores: Steps, Faithful, Calls, Splits, Traces, and the rest in Theorems.
 --   replay_of ps   the replay of some pieces from the start;   Recorded ps es   the calls that it makes are those of the events es
 -- Assumes nothing.
 use Rattle.std.specs.Prelude.{ℕ, ◌+◌, ◌≤◌, ◌<◌, ◌≡◌, true, length, get_or, ltb}

@@ -1,5 +1,5 @@
 -- What is proved of the lines: those of open channels, for any 64 channels, and that of a record and of a stop. Each record is one theorem,
--- to be read without its proof; proofs/OpenFact.antt and proofs/LineFits.antt have the proofs, under the same names with hyphens.
+-- to be read without its proof; proofs/OpenFact.antt and proofs/LineFits.antt have the proofs, under the same names with underscores.
 -- Assumes nothing.
 use Rattle.std.specs.Prelude.{ℕ, ◌+◌, ◌^◌, ◌≤◌, ◌<◌, ◌≡◌, true, false, List, [], ◌++◌, length, get_or, take, drop}
 use Rattle.text.specs.Page.{joined}

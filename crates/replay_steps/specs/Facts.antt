@@ -1,5 +1,5 @@
 -- What is proved of a step's result alone. Each type is one theorem, to be read without its proof; proofs/Told.antt has the proofs, under the
--- same names with hyphens. What the steps of a replay come to is told in replay_account.
+-- same names with underscores. What the steps of a replay come to is told in replay_account.
 -- Assumes nothing.
 use Rattle.words.specs.Facts.{Once}
 use Rattle.replay_steps.specs.Steps.{reader_of, told_of, told}

@@ -1,5 +1,5 @@
 -- What is proved of the records of a trace, for every call and every list of bytes. Each record or type is one theorem, to be read without its
--- proof; proofs/Theorems.antt has a proof of each under the same name with hyphens.
+-- proof; proofs/Theorems.antt has a proof of each under the same name with underscores.
 --   CallFits a    the numbers of the call a are such as 4 bytes of gap limit hold, and 8 bytes of tick and register and 4 of boot number
 --                 (SeenFits)
 --   Sayable x     some record says the call x

@@ -4,7 +4,7 @@
 --   place_by c e i at   document 01's formula, of an instance's register at an offset, by the feature's entry
 --   domain_offset n r   where register r of domain n stands in an instance
 --   StoreBounds        the supposition of `Stores` at its bounds, a worked case
--- The theorems' proofs are in proofs/Roads.antt, under the same names with hyphens.
+-- The theorems' proofs are in proofs/Roads.antt, under the same names with underscores.
 -- Assumes nothing.
 use Rattle.std.specs.Prelude.{ℕ, ◌+◌, ◌-◌, ◌*◌, ◌^◌, ◌<◌, ◌≡◌, ◌≢◌, [], ◌∷◌}
 use Rattle.words.specs.Answers.{gives}

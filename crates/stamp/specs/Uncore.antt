@@ -4,7 +4,7 @@
 --                      offset register; of the second the second advanced control, all ones, is the instance's last 8 bytes
 --   ControlStoresOf    what a permitted write must leave in the BAR capture, of any function in the place of ours
 --   MeshBounds         what is proved
--- The proof is in proofs/Uncore.antt, under the same name with hyphens.
+-- The proof is in proofs/Uncore.antt, under the same name with underscores.
 -- Assumes nothing.
 use Rattle.std.specs.Prelude.{ℕ, ◌+◌, ◌≡◌, ◌≢◌, List, [], ◌∷◌, ◌++◌, replicate}
 use Rattle.words.specs.Answers.{gives}

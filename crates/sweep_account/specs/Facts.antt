@@ -1,5 +1,5 @@
 -- What is proved of calls and sweeps in any order. Each record or type is one theorem, to be read without its proof; proofs/Theorems has a
--- proof of each under the same name with hyphens.
+-- proof of each under the same name with underscores.
 --   Recorded ss es   the calls that the steps make are those of the events es
 -- Assumes nothing.
 use Rattle.std.specs.Prelude.{ℕ, ◌<◌, ◌≡◌, true, List, [], ◌∷◌, length, get_or, ltb}

@@ -1,4 +1,2 @@
 mod Copied
-mod Rows
-mod Relends
-mod Channels
+mod Tested

@@ -1,5 +1,5 @@
 -- What is proved of words on a page and of numbers as text. Each record is one theorem, to be read without its proof; proofs/PageLaws.antt,
--- proofs/LinesLaws.antt and proofs/NumeralFact.antt have the proofs, under the same names with hyphens.
+-- proofs/LinesLaws.antt and proofs/NumeralFact.antt have the proofs, under the same names with underscores.
 -- Assumes nothing.
 use Rattle.std.specs.Prelude.{ℕ, ◌+◌, ◌^◌, ◌≤◌, ◌<◌, ◌≡◌, ◌⊎◌, List, [], ◌∷◌, length, get_or, take}
 use Rattle.text.specs.Page.{over, after, over_all, after_all, joined}

@@ -1,5 +1,5 @@
 -- What is proved of the faults of a table, for every list of bytes. Each is to be read without its proof; proofs/FaultFact.antt has a proof
--- of each, under the same name with hyphens.
+-- of each, under the same name with underscores.
 -- Assumes nothing.
 use Rattle.std.specs.Prelude.{ℕ, ◌+◌, ◌*◌, ◌≤◌, ◌<◌, ◌≡◌, ◌⊎◌, ◌↔◌, ◌≢◌, List, length}
 use Rattle.tpmi_banks.specs.Faults.{bank_in, fault_at, faults_of}

@@ -1,5 +1,5 @@
 -- What is proved of the table's location and of discovery, for every capture. Each is to be read without its proof; proofs/LocationFact.antt
--- and proofs/DiscoveryFact.antt have the proofs, under the same names with hyphens.
+-- and proofs/DiscoveryFact.antt have the proofs, under the same names with underscores.
 -- Assumes nothing.
 use Rattle.std.specs.Prelude.{ℕ, ◌+◌, ◌*◌, ◌≤◌, ◌<◌, ◌≡◌, ◌⊎◌, ◌↔◌, ◌≢◌, List, [], ◌∷◌, length}
 use Rattle.words.specs.Answers.{refused, gives}

@@ -1,5 +1,5 @@
 -- What is proved of one entry, for every list of bytes. Each is to be read without its proof; proofs/Theorems.antt
--- has a proof of each, under the same name with hyphens.
+-- has a proof of each, under the same name with underscores.
 -- Assumes nothing.
 use Rattle.std.specs.Prelude.{ℕ, ◌≤◌, ◌<◌, ◌≡◌, ◌↔◌, List, length}
 use Rattle.words.specs.Answers.{refused, gives}

@@ -1,5 +1,5 @@
 -- What is proved of the lookups over an accepted capture, for every capture. Each is to be read without its proof; proofs/LookupFact.antt,
--- proofs/Apart.antt and proofs/EntryFact.antt have the proofs, under the same names with hyphens.
+-- proofs/Apart.antt and proofs/EntryFact.antt have the proofs, under the same names with underscores.
 -- Assumes nothing.
 use Rattle.std.specs.Prelude.{ℕ, ◌+◌, ◌*◌, ◌≤◌, ◌<◌, ◌≡◌, ◌↔◌, ◌≢◌, List, [], length, get_or, take, drop}
 use Rattle.words.specs.Answers.{refused, gives}

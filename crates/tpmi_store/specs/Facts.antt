@@ -1,5 +1,5 @@
 -- What is proved of a store into an instance, for every capture, every feature and any 8 bytes inside the instance. Each is to be read
--- without its proof; the proofs stand under the same names with hyphens: proofs/StoreLeaves.antt, proofs/StoreLaws.antt
+-- without its proof; the proofs stand under the same names with underscores: proofs/StoreLeaves.antt, proofs/StoreLaws.antt
 -- (PlacedStore), proofs/FieldStores.antt, proofs/AsBefore.antt.
 -- Assumes nothing.
 use Rattle.std.specs.Prelude.{ℕ, ◌+◌, ◌%◌, ◌^◌, ◌≤◌, ◌<◌, ◌≡◌, ◌⊎◌, ◌≢◌, List, [], ◌∷◌, length, get_or}

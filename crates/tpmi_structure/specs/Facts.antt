@@ -1,5 +1,5 @@
 -- What is proved of the structure, for every list of bytes and every value. Each is to be read without its proof;
--- proofs/Theorems.antt has a proof of each, under the same name with hyphens.
+-- proofs/Theorems.antt has a proof of each, under the same name with underscores.
 -- Assumes nothing.
 use Rattle.std.specs.Prelude.{ℕ, ◌%◌, ◌≤◌, ◌<◌, ◌≡◌, ◌↔◌, false, List, length}
 use Rattle.fields.specs.Facts.{ValueTrips}

@@ -1,5 +1,5 @@
 -- What is proved of clusters and of the places of their registers, for the bytes of every instance. Each is to be read without its proof,
--- which stands in proofs/ClustersFact.antt, proofs/PlaceFact.antt and proofs/HangsOnHead.antt under the same name with hyphens.
+-- which stands in proofs/ClustersFact.antt, proofs/PlaceFact.antt and proofs/HangsOnHead.antt under the same name with underscores.
 -- Assumes nothing.
 use Rattle.std.specs.Prelude.{ℕ, ◌+◌, ◌*◌, ◌≤◌, ◌<◌, ◌≡◌, List, [], ◌∷◌, ◌⊎◌, ◌↔◌, length, get_or}
 use Rattle.words.specs.Answers.{refused, gives}

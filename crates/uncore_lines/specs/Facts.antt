@@ -1,5 +1,5 @@
 -- What is proved of the lines: how long each can be, and that a page so long shows it whole (`LineFits` of the crate text). Each is to be read
--- without its proof; proofs/LineFits.antt has the proofs, under the same names with hyphens.
+-- without its proof; proofs/LineFits.antt has the proofs, under the same names with underscores.
 -- Assumes nothing.
 use Rattle.std.specs.Prelude.{ℕ, ◌^◌, ◌<◌}
 use Rattle.words.specs.Told.{told}

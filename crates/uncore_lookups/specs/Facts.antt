@@ -1,5 +1,5 @@
 -- What is proved of clusters over every capture. To be read without its proof, which is in proofs/FabricRoads.antt under the same name with
--- hyphens.
+-- underscores.
 -- Assumes nothing.
 use Rattle.std.specs.Prelude.{ℕ, ◌≡◌, [], ◌∷◌, ◌≢◌}
 use Rattle.words.specs.Answers.{refused, gives}

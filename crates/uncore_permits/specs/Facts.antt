@@ -1,5 +1,5 @@
 -- What is proved of the write of one field of a register, for every number and content. Each is to be read without its proof, which stands in
--- proofs/WordFact.antt under the same name with hyphens.
+-- proofs/WordFact.antt under the same name with underscores.
 -- Assumes nothing.
 use Rattle.std.specs.Prelude.{ℕ, ◌+◌, ◌^◌, ◌≤◌, ◌<◌, ◌≡◌, [], ◌∷◌, ◌⊎◌, ◌↔◌, ◌≢◌, length}
 use Rattle.words.specs.Answers.{refused, gives}

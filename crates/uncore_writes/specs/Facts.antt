@@ -1,5 +1,5 @@
 -- What is proved of the write of one field of a cluster's register, for every number, instance and capture. Each is to be read without its
--- proof; the proofs stand under the same names with hyphens: proofs/ControlNextFact.antt, proofs/ControlWriteFact.antt,
+-- proof; the proofs stand under the same names with underscores: proofs/ControlNextFact.antt, proofs/ControlWriteFact.antt,
 -- proofs/ControlReadBack.antt.
 -- Assumes nothing.
 use Rattle.std.specs.Prelude.{ℕ, ◌+◌, ◌^◌, ◌≤◌, ◌<◌, ◌≡◌, List, [], ◌∷◌, ◌⊎◌, ◌↔◌, ◌≢◌}

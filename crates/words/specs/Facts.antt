@@ -1,5 +1,5 @@
 -- What is proved of the definitions of this crate, for every number and every list. Each record is one theorem, to be read
--- without its proof; proofs/Theorems.antt has a proof of each, under the same name with hyphens.
+-- without its proof; proofs/Theorems.antt has a proof of each, under the same name with underscores.
 -- Assumes nothing.
 use Rattle.std.specs.Prelude.{ℕ, ◌+◌, ◌*◌, ◌/◌, ◌%◌, ◌^◌, ◌≤◌, ◌<◌, ◌≡◌, ◌⊎◌, ◌↔◌, ◌≢◌, Bool, true, false, not, ◌&&◌, List, [], ◌∷◌, ◌++◌, length, get_or, T, ltb, eqb}
 use Rattle.words.specs.Bytes.{AllBytes, number_at, stored}

@@ -17,10 +17,10 @@ overflow_add-sum c = omega (arith, c.share-sum.ensures.answer, share_most c.args
 
 pub loop-i-preserved : goal.loop-i-preserved
 loop-i-preserved c = let m = share_most c.args.unit (get_or c.args.channels c.loop-i.i closed) in (
-      omega arith,
-      omega (arith, c.share-sum.ensures.answer, shares_more c.args.unit c.args.channels c.loop-i.i (omega arith)),
-      omega (arith, c.share-sum.ensures.answer, m),
-    )
+  omega arith,
+  omega (arith, c.share-sum.ensures.answer, shares_more c.args.unit c.args.channels c.loop-i.i (omega arith)),
+  omega (arith, c.share-sum.ensures.answer, m),
+)
 
 pub returns : goal.returns
 returns c = record { answer = sym (hall_sum c.args.channels c.args.unit c.if-unit-gt31.false ∙ rw (c.loop-i.invariant.1, take_all c.loop-i.i c.args.channels (omega arith))) }

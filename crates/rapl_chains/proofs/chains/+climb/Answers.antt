@@ -1,5 +1,5 @@
 -- `rapl_chains::chains::climb` meets its contract: at each return the tests on the way decide where the climb leads. Assumes nothing.
-use mathlib.Core.Path.{◌≡◌, sym, ap, ◌∙◌}
+use mathlib.Core.Path.{sym, ap, ◌∙◌}
 use native.Mathlib.Omega.{arith}
 use Rattle.rapl_domains.specs.Told.{told}
 use Rattle.rapl_chains.proofs.ChainLaws.{climb_broken, climb_root, climb_last, climb_up}

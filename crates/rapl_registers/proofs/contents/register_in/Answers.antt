@@ -41,8 +41,10 @@ overflow_add-at c = omega (arith, (inside _ _ (known _ _ (answer_2 c)).0).0)
 
 pub returns-then-there : goal.returns-then-there
 unfolding register_at
-returns-then-there c = let e : c.u64_at.result ≡ register_at c.args.s.now c.args.n c.args.r = c.u64_at.ensures.answer in record { answer = ap (λ (x : ℕ). gives (x ∷ [])) e
-    ∙ sym (content_of_law _ _ _ (answer_3 c) (absent_none _ _ c.if-r-gt15.false (sym c.present-there.ensures.answer ∙ c.if-there.true))) }
+returns-then-there c = let e : c.u64_at.result ≡ register_at c.args.s.now c.args.n c.args.r = c.u64_at.ensures.answer in record {
+  answer = ap (λ (x : ℕ). gives (x ∷ [])) e
+      ∙ sym (content_of_law _ _ _ (answer_3 c) (absent_none _ _ c.if-r-gt15.false (sym c.present-there.ensures.answer ∙ c.if-there.true)));
+}
 
 pub returns : goal.returns
 returns c = record { answer = sym (content_of_law _ _ _ (answer_4 c) (absent_26 _ _ c.if-r-gt15.false (sym c.present-there.ensures.answer ∙ c.if-there.false))) }

@@ -45,5 +45,7 @@ pub returns-then-shared : goal.returns-then-shared
 returns-then-shared c = record { answer = sym (fault_eleven c.args.bar.now c.args.table c.args.entries c.args.k c.bank_in-b.ensures.answer (filled_4 c) c.if-b-eq1.false c.if-bar-b.false (unlike c) (sym c.shared.ensures.answer ∙ c.if-shared.true)) }
 
 pub returns : goal.returns
-returns c = record { answer = c.earlier-against.ensures.answer
-    ∙ sym (fault_rest c.args.bar.now c.args.table c.args.entries c.args.k c.bank_in-b.ensures.answer (filled_5 c) c.if-b-eq1.false c.if-bar-b.false (unlike_2 c) (sym c.shared.ensures.answer ∙ c.if-shared.false)) }
+returns c = record {
+  answer = c.earlier-against.ensures.answer
+      ∙ sym (fault_rest c.args.bar.now c.args.table c.args.entries c.args.k c.bank_in-b.ensures.answer (filled_5 c) c.if-b-eq1.false c.if-bar-b.false (unlike_2 c) (sym c.shared.ensures.answer ∙ c.if-shared.false));
+}

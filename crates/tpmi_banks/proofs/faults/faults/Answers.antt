@@ -11,8 +11,10 @@ loop-k-init c = (omega arith, fault_none (fault_at c.args.bar.now c.args.table c
 
 pub returns-then-f-ne0 : goal.returns-then-f-ne0
 unfolding faults_of
-returns-then-f-ne0 c = record { answer = c.fault-f.ensures.answer
-    ∙ sym (fault_stop (fault_at c.args.bar.now c.args.table c.args.entries) c.loop-k.k c.args.entries c.loop-k-test.true c.loop-k.invariant.1 (λ z. c.if-f-ne0.true (c.fault-f.ensures.answer ∙ z))) }
+returns-then-f-ne0 c = record {
+  answer = c.fault-f.ensures.answer
+      ∙ sym (fault_stop (fault_at c.args.bar.now c.args.table c.args.entries) c.loop-k.k c.args.entries c.loop-k-test.true c.loop-k.invariant.1 (λ z. c.if-f-ne0.true (c.fault-f.ensures.answer ∙ z)));
+}
 
 pub loop-k-preserved : goal.loop-k-preserved
 loop-k-preserved c = (omega arith, fault_pass (fault_at c.args.bar.now c.args.table c.args.entries) c.loop-k.k c.loop-k.invariant.1 (sym c.fault-f.ensures.answer ∙ c.if-f-ne0.false))

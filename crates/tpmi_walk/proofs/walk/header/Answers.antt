@@ -1,6 +1,5 @@
 -- `tpmi_walk::walk::header` meets its contract: the word's fields are the header's, and the tests on the way decide. Assumes nothing.
 use mathlib.Core.Path.{◌≡◌, sym, ap, ◌∙◌}
-use mathlib.Core.Logic.{⊎_elim}
 use native.Mathlib.Omega.{arith}
 use Rattle.fields.specs.Bits.{field}
 use Rattle.fields.proofs.FieldLaws.{field_lt}
@@ -33,16 +32,22 @@ returns-then-at-gt4088 c = record { answer = sym (header_cut c.args.config.now c
 
 pub returns-then-u16_at-eq66 : goal.returns-then-u16_at-eq66
 unfolding vsec_id_at
-returns-then-u16_at-eq66 c = record { answer = ap stops c.taken.ensures.answer
-          ∙ sym (header_tpmi c.args.config.now c.args.at (sym (identifier_2 c) ∙ c.if-identifier-eq11.true) c.if-at-gt4088.false (sym c.u16_at.ensures.answer ∙ c.if-u16_at-eq66.true)); within = tt }
+returns-then-u16_at-eq66 c = record {
+  answer = ap stops c.taken.ensures.answer
+      ∙ sym (header_tpmi c.args.config.now c.args.at (sym (identifier_2 c) ∙ c.if-identifier-eq11.true) c.if-at-gt4088.false (sym c.u16_at.ensures.answer ∙ c.if-u16_at-eq66.true));
+  within = tt;
+}
 
 pub follow-requires : goal.follow-requires
 follow-requires c = omega (arith, c.field-next.ensures.answer, field_lt 20 12 c.u32_at-word.result)
 
 pub returns : goal.returns
 unfolding vsec_id_at
-returns c = record { answer = c.follow.ensures.answer ∙ ap followed (next c)
-          ∙ sym (elim c.if-identifier-eq11.branch [
-            then-identifier-eq11+else-at-gt4088+else-u16_at-eq66 w ↦ header_other_id c.args.config.now c.args.at w.if-at-gt4088.false (λ z. w.if-u16_at-eq66.false (w.u16_at.ensures.answer ∙ z))
-          | else-identifier-eq11 w ↦ header_other c.args.config.now c.args.at (λ z. w.if-identifier-eq11.false (identifier_3 c ∙ z))
-          ]); within = c.follow.ensures.within }
+returns c = record {
+  answer = c.follow.ensures.answer ∙ ap followed (next c)
+      ∙ sym (elim c.if-identifier-eq11.branch [
+        | then-identifier-eq11+else-at-gt4088+else-u16_at-eq66 w ↦ header_other_id c.args.config.now c.args.at w.if-at-gt4088.false (λ z. w.if-u16_at-eq66.false (w.u16_at.ensures.answer ∙ z))
+        | else-identifier-eq11 w ↦ header_other c.args.config.now c.args.at (λ z. w.if-identifier-eq11.false (identifier_3 c ∙ z))
+      ]);
+  within = c.follow.ensures.within;
+}

@@ -21,9 +21,9 @@ returns-in-Stops c = record { answer = walk_onward _ _ _ c.loop-left.invariant.1
 
 pub loop-left-preserved : goal.loop-left-preserved
 loop-left-preserved c = let e = ap told c.in-Goes.is in (
-      subst (λ (h : Header). Onward h 4096) e c.header.ensures.within,
-      walk_onward _ _ _ c.loop-left.invariant.1 c.loop-left-test.true (sym c.header.ensures.answer ∙ e),
-    )
+  subst (λ (h : Header). Onward h 4096) e c.header.ensures.within,
+  walk_onward _ _ _ c.loop-left.invariant.1 c.loop-left-test.true (sym c.header.ensures.answer ∙ e),
+)
 
 pub returns : goal.returns
 returns c = record { answer = sym (walk_out _ _ _ c.loop-left-test.false) ∙ c.loop-left.invariant.1 }

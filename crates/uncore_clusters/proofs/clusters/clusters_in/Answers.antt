@@ -8,5 +8,7 @@ use Rattle.uncore_clusters.proofs.clusters.clusters_in.Goals as goal
 
 pub returns : goal.returns
 unfolding clusters_in
-returns c = record { answer = c.count_of.ensures.answer ∙ ap (λ (h : Header). ones_in h.mask) c.read.ensures.answer
-    ∙ ap (λ (x : ℕ). ones_in (header_of x).mask) c.u64_at.ensures.answer }
+returns c = record {
+  answer = c.count_of.ensures.answer ∙ ap (λ (h : Header). ones_in h.mask) c.read.ensures.answer
+      ∙ ap (λ (x : ℕ). ones_in (header_of x).mask) c.u64_at.ensures.answer;
+}

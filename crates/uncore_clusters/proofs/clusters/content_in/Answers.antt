@@ -11,5 +11,7 @@ pub returns-in_default : goal.returns-in_default
 returns-in_default c = let e = ap told c.in_default.is in record { answer = e ∙ sym (content_stops _ _ _ _ (sym c.place_in-placed.ensures.answer ∙ e)) }
 
 pub returns : goal.returns
-returns c = record { answer = ap (λ (x : ℕ). gives (x ∷ [])) c.u64_at.ensures.answer
-    ∙ sym (content_there _ _ _ _ (sym c.place_in-placed.ensures.answer ∙ ap told c.in-Is.is)) }
+returns c = record {
+  answer = ap (λ (x : ℕ). gives (x ∷ [])) c.u64_at.ensures.answer
+      ∙ sym (content_there _ _ _ _ (sym c.place_in-placed.ensures.answer ∙ ap told c.in-Is.is));
+}

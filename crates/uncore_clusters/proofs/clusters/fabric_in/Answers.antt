@@ -27,5 +27,7 @@ pub overflow_add-result : goal.overflow_add-result
 overflow_add-result c = omega (arith, product c, few c, c.if-clusters-n.false)
 
 pub returns : goal.returns
-returns c = record { answer = ap (λ (k : ℕ). gives ((c.args.die * k + c.args.n) ∷ [])) c.clusters_in-clusters.ensures.answer
-    ∙ sym (fabric_known _ _ _ c.if-die-gt255.false (omega (arith, c.clusters_in-clusters.ensures.answer, c.if-clusters-n.false))) }
+returns c = record {
+  answer = ap (λ (k : ℕ). gives ((c.args.die * k + c.args.n) ∷ [])) c.clusters_in-clusters.ensures.answer
+      ∙ sym (fabric_known _ _ _ c.if-die-gt255.false (omega (arith, c.clusters_in-clusters.ensures.answer, c.if-clusters-n.false)));
+}

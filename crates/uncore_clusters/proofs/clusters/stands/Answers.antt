@@ -19,5 +19,7 @@ pub overflow_add-result : goal.overflow_add-result
 overflow_add-result c = omega (arith, c.start_in.ensures.answer, start_most c.args.s.now c.args.n)
 
 pub returns : goal.returns
-returns c = record { answer = ap (λ (x : ℕ). gives ((x + (c.args.r - 2) * 8) ∷ [])) c.start_in.ensures.answer
-    ∙ sym (stood_there _ _ _ c.if-r-lt-STATUS.false (sym c.inside-offsets.ensures.answer ∙ ap told c.in-Is.is)) }
+returns c = record {
+  answer = ap (λ (x : ℕ). gives ((x + (c.args.r - 2) * 8) ∷ [])) c.start_in.ensures.answer
+      ∙ sym (stood_there _ _ _ c.if-r-lt-STATUS.false (sym c.inside-offsets.ensures.answer ∙ ap told c.in-Is.is));
+}
