@@ -1,7 +1,7 @@
 // Writes of a limit's fields, in a capture with one feature and two domains, a package and a memory.
-use libc::STDOUT_FILENO;
 use rapl_permits::permits::{LOCK, PWR_LIM, PWR_LIM_EN, TIME_WINDOW};
 use report::endings::outcome;
+use std::io;
 use stores::numbers::{store_u16, store_u64};
 use text::numerals::{labelled, labelled_hex};
 use text::page::{put, shown};
@@ -32,6 +32,7 @@ fn field(page: &mut [u8], at: usize, which: u64, value: u64) -> usize {
 }
 
 fn write(
+    rt: &impl Print,
     config: &[u8],
     low: &mut [u8],
     high: &mut [u8],
@@ -39,46 +40,61 @@ fn write(
     limit: u64,
     which: u64,
     value: u64,
-) {
+) -> io::Result<()> {
     let mut page = [0u8; 128];
     let mut at = labelled(&mut page, 0, b"domain ", n);
     at = labelled(&mut page, at, b", limit ", limit);
     at = field(&mut page, at, which, value);
     let came = rapl_writes::write::write(config, 0, low, 1, high, 0, n, limit, which, value);
     at = outcome(&mut page, at, came);
-    io::write_all(STDOUT_FILENO, shown(&page, at));
+    rt.write_all(shown(&page, at))
 }
 
 // What both captures hold where the socket's first limit stands.
-fn held(low: &[u8], high: &[u8]) {
+fn held(rt: &impl Print, low: &[u8], high: &[u8]) -> io::Result<()> {
     let mut page = [0u8; 128];
     let mut at = labelled_hex(&mut page, 0, b"  at 6112 BAR 0 holds 0x", u64_at(low, 6112));
     at = labelled_hex(&mut page, at, b", BAR 1 holds 0x", u64_at(high, 6112));
     at = put(&mut page, at, b"\n");
-    io::write_all(STDOUT_FILENO, shown(&page, at));
+    rt.write_all(shown(&page, at))
 }
 
 // Document 01's three writes: PWR_LIM, TIME_WINDOW and PWR_LIM_EN of the socket's first limit.
-pub(crate) fn limits(config: &[u8], low: &mut [u8], high: &mut [u8]) {
-    write(config, low, high, 0, 1, PWR_LIM, 1000);
-    write(config, low, high, 0, 1, TIME_WINDOW, 0x6E);
-    write(config, low, high, 0, 1, PWR_LIM_EN, 1);
-    held(low, high);
+pub(crate) fn limits(
+    rt: &impl Print,
+    config: &[u8],
+    low: &mut [u8],
+    high: &mut [u8],
+) -> io::Result<()> {
+    write(rt, config, low, high, 0, 1, PWR_LIM, 1000)?;
+    write(rt, config, low, high, 0, 1, TIME_WINDOW, 0x6E)?;
+    write(rt, config, low, high, 0, 1, PWR_LIM_EN, 1)?;
+    held(rt, low, high)
 }
 
 // A number too wide, the window of a package's second limit, a second limit of the memory, a limit 3.
-pub(crate) fn refusals(config: &[u8], low: &mut [u8], high: &mut [u8]) {
-    write(config, low, high, 0, 1, PWR_LIM, 262144);
-    write(config, low, high, 0, 2, TIME_WINDOW, 0x6E);
-    write(config, low, high, 1, 2, PWR_LIM, 1000);
-    write(config, low, high, 0, 3, PWR_LIM, 1000);
-    held(low, high);
+pub(crate) fn refusals(
+    rt: &impl Print,
+    config: &[u8],
+    low: &mut [u8],
+    high: &mut [u8],
+) -> io::Result<()> {
+    write(rt, config, low, high, 0, 1, PWR_LIM, 262144)?;
+    write(rt, config, low, high, 0, 2, TIME_WINDOW, 0x6E)?;
+    write(rt, config, low, high, 1, 2, PWR_LIM, 1000)?;
+    write(rt, config, low, high, 0, 3, PWR_LIM, 1000)?;
+    held(rt, low, high)
 }
 
 // Once LOCK is 1 no field can be written, LOCK neither.
-pub(crate) fn locked(config: &[u8], low: &mut [u8], high: &mut [u8]) {
-    write(config, low, high, 0, 1, LOCK, 1);
-    write(config, low, high, 0, 1, PWR_LIM, 2000);
-    write(config, low, high, 0, 1, LOCK, 0);
-    held(low, high);
+pub(crate) fn locked(
+    rt: &impl Print,
+    config: &[u8],
+    low: &mut [u8],
+    high: &mut [u8],
+) -> io::Result<()> {
+    write(rt, config, low, high, 0, 1, LOCK, 1)?;
+    write(rt, config, low, high, 0, 1, PWR_LIM, 2000)?;
+    write(rt, config, low, high, 0, 1, LOCK, 0)?;
+    held(rt, low, high)
 }

@@ -1,9 +1,9 @@
 // The RAPL domains of document 001's register layout example, socket, memory and platform, in a capture with one feature.
 use crate::caller::limit_1;
-use libc::STDOUT_FILENO;
 use rapl_domains::domains::Known;
 use rapl_lookups::lookups;
 use report::endings::{content, refusal, value};
+use std::io;
 use stores::numbers::{store_u16, store_u64};
 use text::numerals::{labelled, labelled_hex};
 use text::page::{put, shown};
@@ -35,7 +35,13 @@ pub(crate) fn set_domains(bar: &mut [u8]) {
     store_u64(bar, 6360, 0xA383);
 }
 
-fn domain<'a>(config: &[u8], low: &'a [u8], high: &'a [u8], n: u64) {
+fn domain<'a>(
+    rt: &impl Print,
+    config: &[u8],
+    low: &'a [u8],
+    high: &'a [u8],
+    n: u64,
+) -> io::Result<()> {
     let mut page = [0u8; 128];
     let mut at = labelled(&mut page, 0, b"domain ", n);
     match lookups::domain(config, 0, low, 1, high, 0, n) {
@@ -44,24 +50,36 @@ fn domain<'a>(config: &[u8], low: &'a [u8], high: &'a [u8], n: u64) {
             at = labelled(&mut page, at, b", parent ", h.parent);
             at = labelled_hex(&mut page, at, b", FLAGS 0x", h.flags);
             at = put(&mut page, at, b"\n");
-            io::write_all(STDOUT_FILENO, shown(&page, at));
+            rt.write_all(shown(&page, at))
         }
         Known::Refused(k) => {
             at = refusal(&mut page, at, k);
-            io::write_all(STDOUT_FILENO, shown(&page, at));
+            rt.write_all(shown(&page, at))
         }
     }
 }
 
 // The instance has room for three.
-pub(crate) fn domains<'a>(config: &[u8], low: &'a [u8], high: &'a [u8]) {
-    domain(config, low, high, 0);
-    domain(config, low, high, 1);
-    domain(config, low, high, 2);
-    domain(config, low, high, 3);
+pub(crate) fn domains<'a>(
+    rt: &impl Print,
+    config: &[u8],
+    low: &'a [u8],
+    high: &'a [u8],
+) -> io::Result<()> {
+    domain(rt, config, low, high, 0)?;
+    domain(rt, config, low, high, 1)?;
+    domain(rt, config, low, high, 2)?;
+    domain(rt, config, low, high, 3)
 }
 
-fn register<'a>(config: &[u8], low: &'a [u8], high: &'a [u8], n: u64, r: u64) {
+fn register<'a>(
+    rt: &impl Print,
+    config: &[u8],
+    low: &'a [u8],
+    high: &'a [u8],
+    n: u64,
+    r: u64,
+) -> io::Result<()> {
     let mut page = [0u8; 128];
     let mut at = labelled(&mut page, 0, b"register ", r);
     at = labelled(&mut page, at, b" of domain ", n);
@@ -70,40 +88,67 @@ fn register<'a>(config: &[u8], low: &'a [u8], high: &'a [u8], n: u64, r: u64) {
         at,
         lookups::register(config, 0, low, 1, high, 0, n, r),
     );
-    io::write_all(STDOUT_FILENO, shown(&page, at));
+    rt.write_all(shown(&page, at))
 }
 
 // The socket's units, energy status and limit info; the memory has no second limit; no domain has a register 16.
-pub(crate) fn registers<'a>(config: &[u8], low: &'a [u8], high: &'a [u8]) {
-    register(config, low, high, 0, 1);
-    register(config, low, high, 0, 7);
-    register(config, low, high, 0, 9);
-    register(config, low, high, 1, 3);
-    register(config, low, high, 1, 16);
+pub(crate) fn registers<'a>(
+    rt: &impl Print,
+    config: &[u8],
+    low: &'a [u8],
+    high: &'a [u8],
+) -> io::Result<()> {
+    register(rt, config, low, high, 0, 1)?;
+    register(rt, config, low, high, 0, 7)?;
+    register(rt, config, low, high, 0, 9)?;
+    register(rt, config, low, high, 1, 3)?;
+    register(rt, config, low, high, 1, 16)
 }
 
-fn chain<'a>(config: &[u8], low: &'a [u8], high: &'a [u8], n: u64) {
+fn chain<'a>(
+    rt: &impl Print,
+    config: &[u8],
+    low: &'a [u8],
+    high: &'a [u8],
+    n: u64,
+) -> io::Result<()> {
     let mut page = [0u8; 128];
     let mut at = labelled(&mut page, 0, b"steps to the root from domain ", n);
     at = value(&mut page, at, lookups::chain(config, 0, low, 1, high, 0, n));
-    io::write_all(STDOUT_FILENO, shown(&page, at));
+    rt.write_all(shown(&page, at))
 }
 
-pub(crate) fn chains<'a>(config: &[u8], low: &'a [u8], high: &'a [u8]) {
-    chain(config, low, high, 0);
-    chain(config, low, high, 1);
-    chain(config, low, high, 2);
+pub(crate) fn chains<'a>(
+    rt: &impl Print,
+    config: &[u8],
+    low: &'a [u8],
+    high: &'a [u8],
+) -> io::Result<()> {
+    chain(rt, config, low, high, 0)?;
+    chain(rt, config, low, high, 1)?;
+    chain(rt, config, low, high, 2)
 }
 
-fn limit<'a>(config: &[u8], low: &'a [u8], high: &'a [u8], n: u64) {
+fn limit<'a>(
+    rt: &impl Print,
+    config: &[u8],
+    low: &'a [u8],
+    high: &'a [u8],
+    n: u64,
+) -> io::Result<()> {
     let mut page = [0u8; 128];
     let mut at = labelled(&mut page, 0, b"PWR_LIM of limit 1 of domain ", n);
     at = value(&mut page, at, limit_1(config, 0, low, 1, high, n));
-    io::write_all(STDOUT_FILENO, shown(&page, at));
+    rt.write_all(shown(&page, at))
 }
 
 // The socket has one; there is no domain 3.
-pub(crate) fn limits<'a>(config: &[u8], low: &'a [u8], high: &'a [u8]) {
-    limit(config, low, high, 0);
-    limit(config, low, high, 3);
+pub(crate) fn limits<'a>(
+    rt: &impl Print,
+    config: &[u8],
+    low: &'a [u8],
+    high: &'a [u8],
+) -> io::Result<()> {
+    limit(rt, config, low, high, 0)?;
+    limit(rt, config, low, high, 3)
 }

@@ -1,24 +1,24 @@
 // Registers of document 001 by themselves, with their defaults: units, window codes, domain headers and a limit.
-use libc::STDOUT_FILENO;
 use rapl_domains::domains::Known;
 use rapl_permits::permits::PWR_LIM_EN;
 use rapl_windows::windows::{quarters, window_code};
 use report::endings::{content, refusal};
+use std::io;
 use stores::numbers::store_u64;
 use text::numerals::{labelled, labelled_hex};
 use text::page::{put, shown};
 use words::answers::Value;
 
 // Words, and a register's content or why there is none.
-fn line(words: &[u8], came: Value) {
+fn line(rt: &impl Print, words: &[u8], came: Value) -> io::Result<()> {
     let mut page = [0u8; 128];
     let mut at = put(&mut page, 0, words);
     at = content(&mut page, at, came);
-    io::write_all(STDOUT_FILENO, shown(&page, at));
+    rt.write_all(shown(&page, at))
 }
 
 // 001's default: 1/8 W, 1/16,384 J, 1/1,024 s.
-pub(crate) fn units() {
+pub(crate) fn units(rt: &impl Print) -> io::Result<()> {
     let u = rapl_units::units::read(0xA383);
     let mut page = [0u8; 128];
     let mut at = labelled_hex(&mut page, 0, b"units 0x", 0xA383);
@@ -26,38 +26,38 @@ pub(crate) fn units() {
     at = labelled(&mut page, at, b", energy ", u.energy);
     at = labelled(&mut page, at, b", time ", u.time);
     at = put(&mut page, at, b"\n");
-    io::write_all(STDOUT_FILENO, shown(&page, at));
-    line(b"  written back", rapl_units::units::write(u));
+    rt.write_all(shown(&page, at))?;
+    line(rt, b"  written back", rapl_units::units::write(u))
 }
 
-fn duration(code: u64) {
+fn duration(rt: &impl Print, code: u64) -> io::Result<()> {
     let mut page = [0u8; 128];
     let mut at = labelled_hex(&mut page, 0, b"window code 0x", code);
     at = labelled(&mut page, at, b" lasts quarters: ", quarters(code));
     at = put(&mut page, at, b"\n");
-    io::write_all(STDOUT_FILENO, shown(&page, at));
+    rt.write_all(shown(&page, at))
 }
 
-fn window(ms: u32, unit: u64) {
+fn window(rt: &impl Print, ms: u32, unit: u64) -> io::Result<()> {
     let mut page = [0u8; 128];
     let mut at = labelled(&mut page, 0, b"window of ms ", ms as u64);
     at = labelled(&mut page, at, b" at time unit ", unit);
     at = content(&mut page, at, window_code(ms, unit));
-    io::write_all(STDOUT_FILENO, shown(&page, at));
+    rt.write_all(shown(&page, at))
 }
 
 // As numbers 0x20 is above 0x01; it lasts less.
-pub(crate) fn windows() {
-    duration(0x20);
-    duration(0x01);
-    duration(0x7F);
-    window(8, 10);
-    window(56000, 10);
-    window(1000, 16);
+pub(crate) fn windows(rt: &impl Print) -> io::Result<()> {
+    duration(rt, 0x20)?;
+    duration(rt, 0x01)?;
+    duration(rt, 0x7F)?;
+    window(rt, 8, 10)?;
+    window(rt, 56000, 10)?;
+    window(rt, 1000, 16)
 }
 
 // Domain 0 of one block whose header is this register and whose other registers are 0.
-fn header(register: u64) {
+fn header(rt: &impl Print, register: u64) -> io::Result<()> {
     let mut part = [0u8; 128];
     store_u64(&mut part, 0, register);
     let mut page = [0u8; 128];
@@ -70,25 +70,25 @@ fn header(register: u64) {
             at = labelled(&mut page, at, b", parent ", h.parent);
             at = labelled_hex(&mut page, at, b", FLAGS 0x", h.flags);
             at = put(&mut page, at, b"\n");
-            io::write_all(STDOUT_FILENO, shown(&page, at));
+            rt.write_all(shown(&page, at))
         }
         Known::Refused(n) => {
             at = refusal(&mut page, at, n);
-            io::write_all(STDOUT_FILENO, shown(&page, at));
+            rt.write_all(shown(&page, at))
         }
     }
 }
 
 // A package, 001's default (type 0 is no domain), and the package with version 2 and with SIZE 2.
-pub(crate) fn headers() {
-    header(0x0000_03AF_0001_0201);
-    header(0x0000_0000_0001_0001);
-    header(0x0000_03AF_0001_0202);
-    header(0x0000_03AF_0002_0201);
+pub(crate) fn headers(rt: &impl Print) -> io::Result<()> {
+    header(rt, 0x0000_03AF_0001_0201)?;
+    header(rt, 0x0000_0000_0001_0001)?;
+    header(rt, 0x0000_03AF_0001_0202)?;
+    header(rt, 0x0000_03AF_0002_0201)
 }
 
 // The register as a value, and as PWR_LIM_EN 0 leaves it in a package.
-pub(crate) fn limit() {
+pub(crate) fn limit(rt: &impl Print) -> io::Result<()> {
     let register: u64 = 0x4000_0000_01B8_03E8;
     let l = rapl_limits::limit::read(register);
     let mut page = [0u8; 128];
@@ -98,12 +98,13 @@ pub(crate) fn limit() {
     at = labelled(&mut page, at, b", PWR_LIM_EN ", l.enable);
     at = labelled(&mut page, at, b", LOCK ", l.lock);
     at = put(&mut page, at, b"\n");
-    io::write_all(STDOUT_FILENO, shown(&page, at));
+    rt.write_all(shown(&page, at))?;
     let mut part = [0u8; 128];
     store_u64(&mut part, 0, 0x0000_03AF_0001_0201);
     store_u64(&mut part, 16, register);
     line(
+        rt,
         b"  with PWR_LIM_EN 0",
         rapl_writes::next::next_in(&part, 0, 1, PWR_LIM_EN, 0),
-    );
+    )
 }

@@ -1,8 +1,12 @@
 // The VSEC structure and the PFS entry of document 01's bench cases, read and written back. Each is asked of the code, and one line says what was
 // asked and what came.
+#![tactic(auto)]
+
 mod structures;
 
-fn main() {
-    structures::structure();
-    structures::entry();
+use std::io;
+
+fn main(rt: HostRuntime) -> io::Result<()> {
+    structures::structure(&rt)?;
+    structures::entry(&rt)
 }

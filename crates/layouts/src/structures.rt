@@ -1,6 +1,6 @@
 // Structures by themselves: document 01's VSEC structure and PFS entry, read and written back.
-use libc::STDOUT_FILENO;
 use report::endings::{outcome, refusal};
+use std::io;
 use text::numerals::{hex, labelled, labelled_hex};
 use text::page::{put, shown};
 use tpmi_entries::entry;
@@ -18,16 +18,16 @@ fn bytes(page: &mut [u8], from: usize, part: &[u8]) -> usize {
 }
 
 // A part that was written back, and what came of it.
-fn back(part: &[u8], came: u8) {
+fn back(rt: &impl Print, part: &[u8], came: u8) -> io::Result<()> {
     let mut page = [0u8; 128];
     let mut at = put(&mut page, 0, b"  written back");
     at = bytes(&mut page, at, part);
     at = outcome(&mut page, at, came);
-    io::write_all(STDOUT_FILENO, shown(&page, at));
+    rt.write_all(shown(&page, at))
 }
 
 // Read, and written to a blank part.
-pub(crate) fn structure() {
+pub(crate) fn structure(rt: &impl Print) -> io::Result<()> {
     let part: [u8; 16] = [
         0x0B, 0x00, 0x01, 0x00, 0x42, 0x00, 0x01, 0x01, 0x00, 0x00, 0x02, 0x02, 0x01, 0x08, 0x00,
         0x00,
@@ -41,19 +41,19 @@ pub(crate) fn structure() {
             at = labelled(&mut page, at, b", tBIR ", v.bir);
             at = labelled(&mut page, at, b", table at ", v.offset);
             at = put(&mut page, at, b"\n");
-            io::write_all(STDOUT_FILENO, shown(&page, at));
+            rt.write_all(shown(&page, at))?;
             let mut blank = [0u8; 16];
             let came = tpmi_structure::structure::write(&mut blank, v);
-            back(&blank, came);
+            back(rt, &blank, came)
         }
         tpmi_structure::structure::Decoded::Refused(n) => {
             at = refusal(&mut page, at, n);
-            io::write_all(STDOUT_FILENO, shown(&page, at));
+            rt.write_all(shown(&page, at))
         }
     }
 }
 
-pub(crate) fn entry() {
+pub(crate) fn entry(rt: &impl Print) -> io::Result<()> {
     let part: [u8; 8] = [0x00, 0x01, 0x60, 0x00, 0x04, 0x00, 0x01, 0x00];
     let mut page = [0u8; 128];
     let mut at = put(&mut page, 0, b"PFS");
@@ -66,14 +66,14 @@ pub(crate) fn entry() {
             at = labelled(&mut page, at, b" words at ", e.offset);
             at = labelled(&mut page, at, b" KiB, attribute ", e.attribute);
             at = put(&mut page, at, b"\n");
-            io::write_all(STDOUT_FILENO, shown(&page, at));
+            rt.write_all(shown(&page, at))?;
             let mut blank = [0u8; 8];
             let came = entry::write(&mut blank, e);
-            back(&blank, came);
+            back(rt, &blank, came)
         }
         entry::Decoded::Refused(n) => {
             at = refusal(&mut page, at, n);
-            io::write_all(STDOUT_FILENO, shown(&page, at));
+            rt.write_all(shown(&page, at))
         }
     }
 }

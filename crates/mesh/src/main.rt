@@ -1,5 +1,7 @@
 // Uncore clocks of document 002: its registers with their defaults, its register map, its examples of the global fabric number, and a capture
 // with two clusters, read and written field by field. Each question is asked of the code, and one line says what was asked and what came.
+#![tactic(auto)]
+
 mod numbering;
 mod pieces;
 mod placement;
@@ -7,11 +9,13 @@ mod ratios;
 mod two_clusters;
 mod values;
 
-fn main() {
-    values::defaults();
-    values::others();
-    placement::map();
-    numbering::examples();
-    numbering::bounds();
-    ratios::writes();
+use std::io;
+
+fn main(rt: HostRuntime) -> io::Result<()> {
+    values::defaults(&rt)?;
+    values::others(&rt)?;
+    placement::map(&rt)?;
+    numbering::examples(&rt)?;
+    numbering::bounds(&rt)?;
+    ratios::writes(&rt)
 }

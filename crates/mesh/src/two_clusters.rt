@@ -2,7 +2,7 @@
 use stores::numbers::{store_u16, store_u64};
 
 // What three of its registers hold: control of both clusters, and the second advanced control of cluster 1.
-#[derive(Drop)]
+#[derive(Clone, Copy)]
 pub(crate) struct Held {
     pub control0: u64,
     pub control1: u64,

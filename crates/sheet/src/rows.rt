@@ -1,7 +1,7 @@
 // The layout sheet of documents 000 and 001 as a capture: ten features, their banks and the places of their registers.
 use capture::places::{Found, Place};
-use libc::STDOUT_FILENO;
 use report::endings::{place, value};
+use std::io;
 use stores::numbers::{store_u16, store_u64};
 use text::numerals::{labelled, labelled_hex};
 use text::page::{put, shown};
@@ -58,55 +58,88 @@ fn placed(located: Located) -> Found {
     }
 }
 
-fn line(words: &[u8], located: Located) {
+fn line(rt: &impl Print, words: &[u8], located: Located) -> io::Result<()> {
     let mut page = [0u8; 128];
     let mut at = put(&mut page, 0, words);
     at = place(&mut page, at, placed(located));
-    io::write_all(STDOUT_FILENO, shown(&page, at));
+    rt.write_all(shown(&page, at))
 }
 
 // The same captures under three pairs of BAR numbers: tBIR 1 is one of them, is neither, and is beside a number above 5.
-pub(crate) fn discovery<'a>(config: &[u8], low: &'a [u8], high: &'a [u8]) {
+pub(crate) fn discovery<'a>(
+    rt: &impl Print,
+    config: &[u8],
+    low: &'a [u8],
+    high: &'a [u8],
+) -> io::Result<()> {
     line(
+        rt,
         b"table of the sheet, BARs 0 and 1",
         discover(config, 0, low, 1, high),
-    );
+    )?;
     line(
+        rt,
         b"table of the sheet, BARs 2 and 3",
         discover(config, 2, low, 3, high),
-    );
+    )?;
     line(
+        rt,
         b"table of the sheet, BARs 1 and 6",
         discover(config, 1, low, 6, high),
-    );
+    )
 }
 
-fn bank<'a>(config: &[u8], low: &'a [u8], high: &'a [u8], id: u64) {
+fn bank<'a>(
+    rt: &impl Print,
+    config: &[u8],
+    low: &'a [u8],
+    high: &'a [u8],
+    id: u64,
+) -> io::Result<()> {
     let mut page = [0u8; 128];
     let mut at = labelled_hex(&mut page, 0, b"feature 0x", id);
     at = place(&mut page, at, feature(config, 0, low, 1, high, id));
-    io::write_all(STDOUT_FILENO, shown(&page, at));
+    rt.write_all(shown(&page, at))
 }
 
-fn valid<'a>(config: &[u8], low: &'a [u8], high: &'a [u8], id: u64) {
+fn valid<'a>(
+    rt: &impl Print,
+    config: &[u8],
+    low: &'a [u8],
+    high: &'a [u8],
+    id: u64,
+) -> io::Result<()> {
     let mut page = [0u8; 128];
     let mut at = labelled_hex(&mut page, 0, b"valid instances of feature 0x", id);
     at = value(&mut page, at, valid_count(config, 0, low, 1, high, id));
-    io::write_all(STDOUT_FILENO, shown(&page, at));
+    rt.write_all(shown(&page, at))
 }
 
-pub(crate) fn features<'a>(config: &[u8], low: &'a [u8], high: &'a [u8]) {
-    bank(config, low, high, 0x00);
-    bank(config, low, high, 0x01);
-    bank(config, low, high, 0x03);
-    bank(config, low, high, 0x05);
-    bank(config, low, high, 0xFD);
-    bank(config, low, high, 0x06);
-    bank(config, low, high, 0x80);
-    valid(config, low, high, 0x01);
+pub(crate) fn features<'a>(
+    rt: &impl Print,
+    config: &[u8],
+    low: &'a [u8],
+    high: &'a [u8],
+) -> io::Result<()> {
+    bank(rt, config, low, high, 0x00)?;
+    bank(rt, config, low, high, 0x01)?;
+    bank(rt, config, low, high, 0x03)?;
+    bank(rt, config, low, high, 0x05)?;
+    bank(rt, config, low, high, 0xFD)?;
+    bank(rt, config, low, high, 0x06)?;
+    bank(rt, config, low, high, 0x80)?;
+    valid(rt, config, low, high, 0x01)
 }
 
-fn register<'a>(config: &[u8], low: &'a [u8], high: &'a [u8], id: u64, n: u64, offset: usize) {
+fn register<'a>(
+    rt: &impl Print,
+    config: &[u8],
+    low: &'a [u8],
+    high: &'a [u8],
+    id: u64,
+    n: u64,
+    offset: usize,
+) -> io::Result<()> {
     let mut page = [0u8; 128];
     let mut at = labelled_hex(&mut page, 0, b"register of feature 0x", id);
     at = labelled(&mut page, at, b", instance ", n);
@@ -116,16 +149,21 @@ fn register<'a>(config: &[u8], low: &'a [u8], high: &'a [u8], id: u64, n: u64, o
         at,
         register_place(config, 0, low, 1, high, id, n, offset),
     );
-    io::write_all(STDOUT_FILENO, shown(&page, at));
+    rt.write_all(shown(&page, at))
 }
 
 // PMAX; CSR_ALL, whose first register is 0x110, so that its register 0x118 has the offset 8; an invalid instance of PEM, one that
 // there is not; an offset past an instance of 64 bytes, and one that is no multiple of 8.
-pub(crate) fn registers<'a>(config: &[u8], low: &'a [u8], high: &'a [u8]) {
-    register(config, low, high, 0x03, 0, 8);
-    register(config, low, high, 0xFD, 2, 8);
-    register(config, low, high, 0x01, 1, 0);
-    register(config, low, high, 0x01, 5, 0);
-    register(config, low, high, 0x03, 0, 64);
-    register(config, low, high, 0x03, 0, 12);
+pub(crate) fn registers<'a>(
+    rt: &impl Print,
+    config: &[u8],
+    low: &'a [u8],
+    high: &'a [u8],
+) -> io::Result<()> {
+    register(rt, config, low, high, 0x03, 0, 8)?;
+    register(rt, config, low, high, 0xFD, 2, 8)?;
+    register(rt, config, low, high, 0x01, 1, 0)?;
+    register(rt, config, low, high, 0x01, 5, 0)?;
+    register(rt, config, low, high, 0x03, 0, 64)?;
+    register(rt, config, low, high, 0x03, 0, 12)
 }

@@ -1,7 +1,7 @@
 // The capture of the tour, and how it says a line.
 use fields::bits::field;
-use libc::STDOUT_FILENO;
 use report::endings::value;
+use std::io;
 use stores::numbers::{store_u16, store_u64};
 use text::page::{put, shown};
 use words::answers::Value;
@@ -18,20 +18,22 @@ pub(crate) fn set(config: &mut [u8], high: &mut [u8]) {
     store_u64(high, 6104, 0xA383);
 }
 
-pub(crate) fn say(words: &[u8], came: Value) {
+pub(crate) fn say(rt: &impl Print, words: &[u8], came: Value) -> io::Result<()> {
     let mut page = [0u8; 128];
     let mut at = put(&mut page, 0, words);
     at = value(&mut page, at, came);
-    io::write_all(STDOUT_FILENO, shown(&page, at));
+    rt.write_all(shown(&page, at))
 }
 
-pub(crate) fn bytes(config: &[u8]) {
+pub(crate) fn bytes(rt: &impl Print, config: &[u8]) -> io::Result<()> {
     say(
+        rt,
         b"words: the vendor word",
         Value::Is(u16_at(config, 0) as u64),
-    );
+    )?;
     say(
+        rt,
         b"fields: the energy unit of 0xA383",
         Value::Is(field(0xA383, 6, 5)),
-    );
+    )
 }
