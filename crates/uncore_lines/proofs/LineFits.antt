@@ -1,6 +1,7 @@
 -- The line of an instance, of a cluster and of one that is refused: how long they can be, and that a page so long shows them whole. Assumes
 -- nothing.
-use Prim.Native.Nat.{ℕ, ◌≤◌}
+use Prim.Native.Nat.{ℕ, ◌+◌, ◌≤◌}
+use mathlib.Core.Path.{◌≡◌}
 use mathlib.Core.Bool.{Bool, true, false, cond}
 use mathlib.Core.List.{List, [], ◌∷◌, ◌++◌}
 use lib.Dec.{eqb}
@@ -12,10 +13,16 @@ use Rattle.words.specs.declared.answers.Value.TheVariants.{Is, Refused}
 use Rattle.text.specs.Page.{joined}
 use Rattle.text.specs.Numerals.{numeral_of}
 use Rattle.text.specs.Words.{line_feed, refused_word}
-use Rattle.text.proofs.LinesLaws.{length_joined, number_short, refusal_short, line_fits}
+use Rattle.text.proofs.LinesLaws.{number_short, refusal_short, line_fits}
 use Rattle.uncore_registers.specs.declared.status.Status.{Status}
 use Rattle.uncore_lines.specs.ClockLines.{invalid_word, ordered_words, proportional_words, reserved_words, agents_word, core_word, cache_word, memory_word, io_word, none_word, clusters_runs, throttle_words, agent_runs, agents, bare, agents_runs}
 use Rattle.uncore_lines.specs.Facts.{Sized, InstanceLineFact, ClusterLineFact, RefusedLineFact}
+
+-- two texts, one after the other
+length_joined : (yss zss : List (List ℕ)) → length (joined (yss ++ zss)) ≡ length (joined yss) + length (joined zss)
+length_joined [] zss = omega arith
+length_joined (ys ∷ yss) zss =
+    omega (arith, length-append ys (joined (yss ++ zss)), length-append ys (joined yss), length_joined yss zss)
 
 -- ---- the line of an instance
 
