@@ -2,4 +2,3 @@
 // up, specs/Facts what is proved, specs/Night a worked night, specs/Restart what document 01 alone made of its restart, specs/Dummies the
 // wrong meters that fall. There is no code here.
 #![tactic(auto)]
-

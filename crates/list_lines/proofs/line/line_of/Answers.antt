@@ -17,5 +17,7 @@ overflow_mul-result c = let b : Bounded c.bank_in-b.result = subst Bounded (sym 
     omega (arith, b.words)
 
 pub returns : goal.returns
-returns c = let count = c.valid_in.ensures.answer ∙ ap (λ (k : Bank). valid_count_in c.args.bar.now k.start (k.words * 4) k.instances) (sym c.bank_in-b.ensures.answer) in record { answer = ap (λ (n : ℕ). c.bank_in-b.result.id ∷ c.bank_in-b.result.instances ∷ n ∷ c.bank_in-b.result.words * 4 ∷ c.bank_in-b.result.start ∷ []) count
-    ∙ sym (line_there c.args.bar.now c.args.table c.args.k c.bank_in-b.ensures.answer (sym c.empty.ensures.answer ∙ c.if-empty.false)) }
+returns c = let count = c.valid_in.ensures.answer ∙ ap (λ (k : Bank). valid_count_in c.args.bar.now k.start (k.words * 4) k.instances) (sym c.bank_in-b.ensures.answer) in record {
+  answer = ap (λ (n : ℕ). c.bank_in-b.result.id ∷ c.bank_in-b.result.instances ∷ n ∷ c.bank_in-b.result.words * 4 ∷ c.bank_in-b.result.start ∷ []) count
+      ∙ sym (line_there c.args.bar.now c.args.table c.args.k c.bank_in-b.ensures.answer (sym c.empty.ensures.answer ∙ c.if-empty.false));
+}

@@ -14,7 +14,9 @@ pub returns-in_default : goal.returns-in_default
 returns-in_default c = record { part = bar_none c.args.input.now c.args.bir (not_laid c.args.input.now (sym c.layout_of.ensures.answer ∙ ap layout.told c.in_default.is)) }
 
 pub returns : goal.returns
-returns c = let q : LaidOut c.args.input.now c.in-Out.l = laid_out c.args.input.now (sym c.layout_of.ensures.answer ∙ ap layout.told c.in-Out.is) in record { part = c.bar_of.ensures.part
-    ∙ ap₂ (λ (n m : ℕ). named c.args.bir n c.low_in.result.now m c.high_in.result.now) q.lo q.hi
-    ∙ ap₂ (λ (x y : List ℕ). named c.args.bir (number_at c.args.input.now 4096 1) x (number_at c.args.input.now (middle_of c.args.input.now) 1) y) c.low_in.ensures.part c.high_in.ensures.part
-    ∙ bar_there c.args.input.now c.args.bir q.reads }
+returns c = let q : LaidOut c.args.input.now c.in-Out.l = laid_out c.args.input.now (sym c.layout_of.ensures.answer ∙ ap layout.told c.in-Out.is) in record {
+  part = c.bar_of.ensures.part
+      ∙ ap₂ (λ (n m : ℕ). named c.args.bir n c.low_in.result.now m c.high_in.result.now) q.lo q.hi
+      ∙ ap₂ (λ (x y : List ℕ). named c.args.bir (number_at c.args.input.now 4096 1) x (number_at c.args.input.now (middle_of c.args.input.now) 1) y) c.low_in.ensures.part c.high_in.ensures.part
+      ∙ bar_there c.args.input.now c.args.bir q.reads;
+}

@@ -9,6 +9,6 @@ loop-k-init c = (omega arith, shown_none c.args.page.now c.args.bar.now c.args.t
 
 pub loop-k-preserved : goal.loop-k-preserved
 loop-k-preserved c = (
-      omega arith,
-      shown_next c.args.page.now c.args.bar.now c.args.table c.ranges.table.fits c.requires c.loop-k.k (omega arith) c.loop-k.invariant.1 (c.entry-at.ensures.answer, c.entry-at.ensures.kept),
-    )
+  omega arith,
+  shown_next c.args.page.now c.args.bar.now c.args.table c.ranges.table.fits c.requires c.loop-k.k (omega arith) c.loop-k.invariant.1 (c.entry-at.ensures.answer, c.entry-at.ensures.kept),
+)

@@ -50,5 +50,7 @@ returns-then-number-ne0 c = record { answer = sym (next_stops _ _ _ _ _ (answer_
 
 pub returns : goal.returns
 unfolding register_at
-returns c = record { answer = sym (next_given _ _ _ _ _ (answer_4 c) c.u64_at-x.ensures.answer (sym c.refusal-number.ensures.answer ∙ c.if-number-ne0.false)
-    (c.with_field.ensures.answer ∙ ap (λ (f : Span). field_stored 64 f.at f.width c.u64_at-x.result c.args.value) c.span_of-f.ensures.answer ∙ stored_whole _ _ _)) }
+returns c = record {
+  answer = sym (next_given _ _ _ _ _ (answer_4 c) c.u64_at-x.ensures.answer (sym c.refusal-number.ensures.answer ∙ c.if-number-ne0.false)
+      (c.with_field.ensures.answer ∙ ap (λ (f : Span). field_stored 64 f.at f.width c.u64_at-x.result c.args.value) c.span_of-f.ensures.answer ∙ stored_whole _ _ _));
+}

@@ -14,7 +14,7 @@ loop-k-init c = (omega arith, names_none c.args.page.now c.args.at c.args.coarse
 
 pub loop-k-preserved : goal.loop-k-preserved
 loop-k-preserved c = (
-      omega arith,
-      names_next c.args.page.now c.args.at c.args.coarse c.loop-k.k c.loop-k.invariant.1
-          (subst (λ (b : ℕ). PutAll c.loop-k.page c.loop-k.end c.name_part-end.result c.name_part-end.new.page (name_runs c.loop-k.k (eqb b 1))) c.field.ensures.answer (c.name_part-end.ensures.answer, c.name_part-end.ensures.kept)),
-    )
+  omega arith,
+  names_next c.args.page.now c.args.at c.args.coarse c.loop-k.k c.loop-k.invariant.1
+      (subst (λ (b : ℕ). PutAll c.loop-k.page c.loop-k.end c.name_part-end.result c.name_part-end.new.page (name_runs c.loop-k.k (eqb b 1))) c.field.ensures.answer (c.name_part-end.ensures.answer, c.name_part-end.ensures.kept)),
+)

@@ -22,19 +22,25 @@ written_2 c =
     c.word_for.ensures.answer ∙ word_is c.args.e c.args.interface c.requires
 
 pub returns-then-last_test : goal.returns-then-last_test
-returns-then-last_test c = record { answer = c.over.ensures.answer
-    ∙ sym (starts_busy c.args.e c.args.interface (sym c.is_busy.ensures.answer ∙ c.if-is_busy.true) ∙ waits_last c.args.e Starting (sym c.last_test.ensures.answer ∙ c.if-last_test.true)) }
+returns-then-last_test c = record {
+  answer = c.over.ensures.answer
+      ∙ sym (starts_busy c.args.e c.args.interface (sym c.is_busy.ensures.answer ∙ c.if-is_busy.true) ∙ waits_last c.args.e Starting (sym c.last_test.ensures.answer ∙ c.if-last_test.true));
+}
 
 pub overflow_add-e : goal.overflow_add-e
 overflow_add-e c = omega (arith, count_low c.args.e c.requires (sym c.last_test.ensures.answer ∙ c.if-last_test.false))
 
 pub returns-then-is_busy : goal.returns-then-is_busy
-returns-then-is_busy c = record { answer = ap (λ (e : Exchange). next (Starting e) waits) c.counting.ensures.answer
-    ∙ sym (starts_busy c.args.e c.args.interface (sym c.is_busy.ensures.answer ∙ c.if-is_busy.true) ∙ waits_more c.args.e Starting (sym c.last_test.ensures.answer ∙ c.if-last_test.false)) }
+returns-then-is_busy c = record {
+  answer = ap (λ (e : Exchange). next (Starting e) waits) c.counting.ensures.answer
+      ∙ sym (starts_busy c.args.e c.args.interface (sym c.is_busy.ensures.answer ∙ c.if-is_busy.true) ∙ waits_more c.args.e Starting (sym c.last_test.ensures.answer ∙ c.if-last_test.false));
+}
 
 pub returns-in_default : goal.returns-in_default
 returns-in_default c = let e : refused _ ≡ gives _ = sym (ap words.told c.in_default.is) ∙ written c in record { answer = cc }
 
 pub returns : goal.returns
-returns c = let e = ap (λ (r : Answer). value_in r 0) (sym (ap words.told c.in-Is.is) ∙ written_2 c) in record { answer = ap₂ (λ (x : Exchange) (s : Said). next (Ending x) s) c.counting-2.ensures.answer (c.store.ensures.answer ∙ ap (λ (y : ℕ). stores (to_store c.args.e y)) e)
-    ∙ sym (starts_idle c.args.e c.args.interface (sym c.is_busy.ensures.answer ∙ c.if-is_busy.false)) }
+returns c = let e = ap (λ (r : Answer). value_in r 0) (sym (ap words.told c.in-Is.is) ∙ written_2 c) in record {
+  answer = ap₂ (λ (x : Exchange) (s : Said). next (Ending x) s) c.counting-2.ensures.answer (c.store.ensures.answer ∙ ap (λ (y : ℕ). stores (to_store c.args.e y)) e)
+      ∙ sym (starts_idle c.args.e c.args.interface (sym c.is_busy.ensures.answer ∙ c.if-is_busy.false));
+}

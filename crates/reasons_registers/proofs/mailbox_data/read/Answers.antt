@@ -4,7 +4,9 @@ use Rattle.reasons_registers.proofs.mailbox_data.read.Goals as goal
 
 pub returns : goal.returns
 unfolding mailbox_data_of
-returns c = record { answer = rw (
-      c.field-2.ensures.answer,
-      c.field.ensures.answer,
-    ) }
+returns c = record {
+  answer = rw (
+    c.field-2.ensures.answer,
+    c.field.ensures.answer,
+  );
+}

@@ -4,7 +4,9 @@ use Rattle.reasons_registers.proofs.plr_header.read.Goals as goal
 
 pub returns : goal.returns
 unfolding header_of
-returns c = record { answer = rw (
-      c.field-2.ensures.answer,
-      c.field.ensures.answer,
-    ) }
+returns c = record {
+  answer = rw (
+    c.field-2.ensures.answer,
+    c.field.ensures.answer,
+  );
+}

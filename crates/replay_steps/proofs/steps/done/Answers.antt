@@ -10,10 +10,14 @@ use Rattle.records.specs.declared.partial.Partial.{Partial}
 use Rattle.replay_steps.proofs.steps.done.Goals as goal
 
 pub returns-in_default : goal.returns-in_default
-returns-in_default c = record { answer = c.standing.ensures.answer
-    ∙ ap (λ (q : Partial). step_by c.args.used (keeps c.args.channels (halted q))) c.begin-stopped.ensures.answer
-    ∙ acted c.args.used c.args.channels c.args.p nothing (sym (ap told c.in_default.is) ∙ c.meaning_of.ensures.answer) }
+returns-in_default c = record {
+  answer = c.standing.ensures.answer
+      ∙ ap (λ (q : Partial). step_by c.args.used (keeps c.args.channels (halted q))) c.begin-stopped.ensures.answer
+      ∙ acted c.args.used c.args.channels c.args.p nothing (sym (ap told c.in_default.is) ∙ c.meaning_of.ensures.answer);
+}
 
 pub returns : goal.returns
-returns c = let said = call_on c.in-Says.said.channel c.in-Says.said.call in record { answer = replies c.args.used c.args.channels c.args.p said _ _ _ c.call_on-after.ensures.answer c.call_on-after.ensures.kept c.begin.ensures.answer
-    ∙ acted c.args.used c.args.channels c.args.p (says said) (sym (ap told c.in-Says.is) ∙ c.meaning_of.ensures.answer) }
+returns c = let said = call_on c.in-Says.said.channel c.in-Says.said.call in record {
+  answer = replies c.args.used c.args.channels c.args.p said _ _ _ c.call_on-after.ensures.answer c.call_on-after.ensures.kept c.begin.ensures.answer
+      ∙ acted c.args.used c.args.channels c.args.p (says said) (sym (ap told c.in-Says.is) ∙ c.meaning_of.ensures.answer);
+}

@@ -18,6 +18,8 @@ meant-requires c = subst (λ (vs : List ℕ). Fit (row_of c.u8_at-kind.result) v
     (subst (λ (ks : List ℕ). Fit ks (numbers_at c.widths_of.result c.args.bytes.now 1)) c.widths_of.ensures.answer (numbers_fit c.widths_of.result c.args.bytes.now 1 (λ k. (c.type_inv.bytes k).fits)))
 
 pub returns : goal.returns
-returns c = record { answer = c.meant.ensures.answer
-    ∙ ap (meant c.u8_at-kind.result) (c.numbers.ensures.answer ∙ ap (λ (ws : List ℕ). numbers_at ws c.args.bytes.now 1) c.widths_of.ensures.answer)
-    ∙ says_whole c.args.bytes.now c.u8_at-kind.ensures.answer (length_by _ _ c.length_of.ensures.answer) (omega (arith, c.if-length_of-bytes.false)) }
+returns c = record {
+  answer = c.meant.ensures.answer
+      ∙ ap (meant c.u8_at-kind.result) (c.numbers.ensures.answer ∙ ap (λ (ws : List ℕ). numbers_at ws c.args.bytes.now 1) c.widths_of.ensures.answer)
+      ∙ says_whole c.args.bytes.now c.u8_at-kind.ensures.answer (length_by _ _ c.length_of.ensures.answer) (omega (arith, c.if-length_of-bytes.false));
+}

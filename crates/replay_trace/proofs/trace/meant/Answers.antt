@@ -79,5 +79,7 @@ unfolding meant
 returns-in-7 c = record { answer = said-as 7 c.args.values (c.on_channel-in-7.ensures.answer ∙ ap (λ (x : Reading). on c.args.values (Resume x)) c.reading_in-in-7.ensures.answer) c.in-7.is refl }
 
 pub returns-in_default : goal.returns-in_default
-returns-in_default c = record { answer = meant_none c.args.values
-    (strange c.args.kind c.in_default.in_default-own.rest.0.0.0.0.0.0.1 c.in_default.in_default-own.rest.0.0.0.0.0.1 c.in_default.in_default-own.rest.0.0.0.0.1 c.in_default.in_default-own.rest.0.0.0.1 c.in_default.in_default-own.rest.0.0.1 c.in_default.in_default-own.rest.0.1 c.in_default.in_default-own.rest.1) }
+returns-in_default c = record {
+  answer = meant_none c.args.values
+      (strange c.args.kind c.in_default.in_default-own.rest.0.0.0.0.0.0.1 c.in_default.in_default-own.rest.0.0.0.0.0.1 c.in_default.in_default-own.rest.0.0.0.0.1 c.in_default.in_default-own.rest.0.0.0.1 c.in_default.in_default-own.rest.0.0.1 c.in_default.in_default-own.rest.0.1 c.in_default.in_default-own.rest.1);
+}

@@ -15,9 +15,9 @@ loop-k-init c = (omega arith, refl)
 
 pub loop-k-preserved : goal.loop-k-preserved
 loop-k-preserved c = (
-      omega arith,
-      elim c.if-valid_at.branch [
-        then-valid_at w ↦ w.bits-is ∙ ap (λ (x : ℕ). bit_or x ((1 * 2 ^ c.loop-k.k) % 2 ^ 64)) c.loop-k.invariant.1 ∙ mask_set _ c.loop-k.k (omega arith) (sym c.valid_at.ensures.answer ∙ w.if-valid_at.true)
-      | else-valid_at w ↦ w.bits-is ∙ c.loop-k.invariant.1 ∙ mask_skip _ c.loop-k.k (sym c.valid_at.ensures.answer ∙ w.if-valid_at.false)
-      ],
-    )
+  omega arith,
+  elim c.if-valid_at.branch [
+    | then-valid_at w ↦ w.bits-is ∙ ap (λ (x : ℕ). bit_or x ((1 * 2 ^ c.loop-k.k) % 2 ^ 64)) c.loop-k.invariant.1 ∙ mask_set _ c.loop-k.k (omega arith) (sym c.valid_at.ensures.answer ∙ w.if-valid_at.true)
+    | else-valid_at w ↦ w.bits-is ∙ c.loop-k.invariant.1 ∙ mask_skip _ c.loop-k.k (sym c.valid_at.ensures.answer ∙ w.if-valid_at.false)
+  ],
+)

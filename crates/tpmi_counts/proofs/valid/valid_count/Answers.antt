@@ -40,7 +40,9 @@ pub count_valid-requires : goal.count_valid-requires
 count_valid-requires c = let r = bank_roomy (capture_2 c) _ (found c) in (r.start, r.size, r.count)
 
 pub returns : goal.returns
-returns c = let q = found_2 c in record { answer = ap (λ (x : ℕ). gives (x ∷ []))
-    (c.count_valid.ensures.answer ∙ ap₂ (λ (s : List ℕ) (a : ℕ). valid_count_in s a c.in-At.bank.size c.in-At.bank.count) (c.bar_of.ensures.part ∙ bar_named (capture_3 c) q.bir) q.start
-    ∙ ap₂ (λ (z k : ℕ). valid_count_in (bar_of (capture_3 c)) (bank_for (capture_3 c) c.args.id).start z k) q.size q.count)
-    ∙ sym (count_found (capture_3 c) c.args.id q.zero) }
+returns c = let q = found_2 c in record {
+  answer = ap (λ (x : ℕ). gives (x ∷ []))
+      (c.count_valid.ensures.answer ∙ ap₂ (λ (s : List ℕ) (a : ℕ). valid_count_in s a c.in-At.bank.size c.in-At.bank.count) (c.bar_of.ensures.part ∙ bar_named (capture_3 c) q.bir) q.start
+      ∙ ap₂ (λ (z k : ℕ). valid_count_in (bar_of (capture_3 c)) (bank_for (capture_3 c) c.args.id).start z k) q.size q.count)
+      ∙ sym (count_found (capture_3 c) c.args.id q.zero);
+}

@@ -33,13 +33,17 @@ found_2 c = table_place (capture_2 c) (sym c.discover-located.ensures.answer ∙
 
 pub returns-in_default : goal.returns-in_default
 unfolding entry_for entry_number discovery_of
-returns-in_default c = let e = ap discovery.told c.in_default.is in record { answer = ap refused (c.number_of.ensures.answer ∙ ap number_in e)
-    ∙ sym (stage_stops (discovery_number _) _ _ _ (sym c.discover-located.ensures.answer ∙ e)) }
+returns-in_default c = let e = ap discovery.told c.in_default.is in record {
+  answer = ap refused (c.number_of.ensures.answer ∙ ap number_in e)
+      ∙ sym (stage_stops (discovery_number _) _ _ _ (sym c.discover-located.ensures.answer ∙ e));
+}
 
 pub returns-then-t-k : goal.returns-then-t-k
 returns-then-t-k c = let k : ℕ = c.args.k in record { answer = sym ((entry_fact (capture c) k).missing.1 ((found c).zero, subst (λ (n : ℕ). n ≤ k) (found c).entries c.if-t-k.true)) }
 
 pub returns : goal.returns
-returns c = let k : ℕ = c.args.k in let q = found_2 c in record { answer = ap (λ (e : Entry). gives (values e))
-    (c.entry_at.ensures.answer ∙ ap₂ (λ (s : List ℕ) (a : ℕ). entry_at s (a + k * 8)) (c.bar_of.ensures.part ∙ bar_named (capture_2 c) q.bir) q.start)
-    ∙ sym (((entry_fact (capture_2 c) k).there _).1 (q.zero, subst (λ (n : ℕ). k < n) q.entries c.if-t-k.false, refl)) }
+returns c = let k : ℕ = c.args.k in let q = found_2 c in record {
+  answer = ap (λ (e : Entry). gives (values e))
+      (c.entry_at.ensures.answer ∙ ap₂ (λ (s : List ℕ) (a : ℕ). entry_at s (a + k * 8)) (c.bar_of.ensures.part ∙ bar_named (capture_2 c) q.bir) q.start)
+      ∙ sym (((entry_fact (capture_2 c) k).there _).1 (q.zero, subst (λ (n : ℕ). k < n) q.entries c.if-t-k.false, refl));
+}

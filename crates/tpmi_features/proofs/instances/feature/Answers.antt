@@ -21,8 +21,10 @@ found c = table_place (capture c) (sym c.discover-located.ensures.answer ∙ ap 
 
 pub returns-in_default : goal.returns-in_default
 unfolding feature_of feature_number discovery_of
-returns-in_default c = let e = ap discovery.told c.in_default.is in record { answer = ap refused (c.number_of.ensures.answer ∙ ap number_in e)
-    ∙ sym (stage_stops (discovery_number _) _ _ _ (sym c.discover-located.ensures.answer ∙ e)) }
+returns-in_default c = let e = ap discovery.told c.in_default.is in record {
+  answer = ap refused (c.number_of.ensures.answer ∙ ap number_in e)
+      ∙ sym (stage_stops (discovery_number _) _ _ _ (sym c.discover-located.ensures.answer ∙ e));
+}
 
 pub returns : goal.returns
 returns c = record { answer = c.feature_in.ensures.answer ∙ feature_from (capture c) c.args.id (found c) c.bar_of.ensures.part }

@@ -20,5 +20,7 @@ overflow_mul-result c = let b = bank_bounded c.args.bar.now c.args.table c.index
 
 pub returns : goal.returns
 returns c = let bank : c.bank_in-b.result ≡ bank_in c.args.bar.now c.args.table (index_in c.args.bar.now c.args.table c.args.entries c.args.id) =
-    c.bank_in-b.ensures.answer ∙ ap (bank_in c.args.bar.now c.args.table) c.index_in-k.ensures.answer in record { answer = ap (λ (k : Bank). gives (c.args.bir ∷ k.start ∷ k.words * 4 ∷ k.instances ∷ [])) bank
-    ∙ sym (feature_there c.args.bar.now c.args.bir c.args.table c.args.entries c.args.id (subst (λ (k : ℕ). k < c.args.entries) c.index_in-k.ensures.answer c.if-entries-k.false)) }
+    c.bank_in-b.ensures.answer ∙ ap (bank_in c.args.bar.now c.args.table) c.index_in-k.ensures.answer in record {
+      answer = ap (λ (k : Bank). gives (c.args.bir ∷ k.start ∷ k.words * 4 ∷ k.instances ∷ [])) bank
+          ∙ sym (feature_there c.args.bar.now c.args.bir c.args.table c.args.entries c.args.id (subst (λ (k : ℕ). k < c.args.entries) c.index_in-k.ensures.answer c.if-entries-k.false));
+    }

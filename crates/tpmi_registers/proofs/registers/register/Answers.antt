@@ -23,5 +23,7 @@ returns-in_default c = let e = ap told c.in_default.is in record { answer = ap r
 
 pub returns : goal.returns
 returns c = let q : RegisterPlace (capture_2 c) c.args.id c.args.n c.args.offset c.in-At.p =
-    register_at (capture_2 c) c.args.id c.args.n c.args.offset (sym c.register_place-found.ensures.answer ∙ ap told c.in-At.is) in record { answer = ap (λ (x : ℕ). gives (x ∷ [])) (c.u64_at.ensures.answer ∙ ap₂ (λ (s : List ℕ) (k : ℕ). number_at s k 8) (c.bar_of.ensures.part ∙ bar_named (capture_2 c) q.bir) q.start)
-    ∙ sym (content_found (capture_2 c) c.args.id c.args.n c.args.offset q.zero) }
+    register_at (capture_2 c) c.args.id c.args.n c.args.offset (sym c.register_place-found.ensures.answer ∙ ap told c.in-At.is) in record {
+      answer = ap (λ (x : ℕ). gives (x ∷ [])) (c.u64_at.ensures.answer ∙ ap₂ (λ (s : List ℕ) (k : ℕ). number_at s k 8) (c.bar_of.ensures.part ∙ bar_named (capture_2 c) q.bir) q.start)
+          ∙ sym (content_found (capture_2 c) c.args.id c.args.n c.args.offset q.zero);
+    }

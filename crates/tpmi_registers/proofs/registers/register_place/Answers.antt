@@ -48,5 +48,7 @@ overflow_add-result c = let q = found_2 c in
     omega (arith, q.start, start_small (capture_2 c) _ _ q.zero, (bank_for_bounded (capture_2 c) c.args.id).words, (outside_room _ _ (sym (tested_2 c) ∙ c.if-number-ne0.false)).1)
 
 pub returns : goal.returns
-returns c = let q = found_2 c in record { answer = ap₂ (λ (b s : ℕ). gives (b ∷ (s + c.args.offset) ∷ 8 ∷ 1 ∷ [])) q.bir q.start
-    ∙ sym (register_inside (capture_2 c) c.args.id c.args.n c.args.offset q.zero (sym (tested_2 c) ∙ c.if-number-ne0.false)) }
+returns c = let q = found_2 c in record {
+  answer = ap₂ (λ (b s : ℕ). gives (b ∷ (s + c.args.offset) ∷ 8 ∷ 1 ∷ [])) q.bir q.start
+      ∙ sym (register_inside (capture_2 c) c.args.id c.args.n c.args.offset q.zero (sym (tested_2 c) ∙ c.if-number-ne0.false));
+}

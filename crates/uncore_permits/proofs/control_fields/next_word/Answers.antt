@@ -96,9 +96,13 @@ pub returns-then-top-bottom : goal.returns-then-top-bottom
 returns-then-top-bottom c = record { answer = sym (word_crossed _ _ _ _ (some_2 c) (narrow c) (sym c.ratio.ensures.answer ∙ c.if-ratio.true) (sym (judged c) ∙ lt-ltb _ _ c.if-top-bottom.true)) }
 
 pub returns-else-top-bottom : goal.returns-else-top-bottom
-returns-else-top-bottom c = record { answer = ap (λ (y : ℕ). gives (y ∷ [])) (word_2 c)
-    ∙ sym (word_ordered _ _ _ _ (some_3 c) (narrow_2 c) (sym (judged_2 c) ∙ le-ltb _ _ c.if-top-bottom.false)) }
+returns-else-top-bottom c = record {
+  answer = ap (λ (y : ℕ). gives (y ∷ [])) (word_2 c)
+      ∙ sym (word_ordered _ _ _ _ (some_3 c) (narrow_2 c) (sym (judged_2 c) ∙ le-ltb _ _ c.if-top-bottom.false));
+}
 
 pub returns-else-ratio : goal.returns-else-ratio
-returns-else-ratio c = record { answer = ap (λ (y : ℕ). gives (y ∷ [])) (word_3 c)
-    ∙ sym (word_other _ _ _ _ (some_4 c) (narrow_3 c) (sym c.ratio.ensures.answer ∙ c.if-ratio.false)) }
+returns-else-ratio c = record {
+  answer = ap (λ (y : ℕ). gives (y ∷ [])) (word_3 c)
+      ∙ sym (word_other _ _ _ _ (some_4 c) (narrow_3 c) (sym c.ratio.ensures.answer ∙ c.if-ratio.false));
+}
