@@ -20,7 +20,6 @@ use Rattle.records.specs.Facts.{IsRecord}
 use Rattle.records_body.specs.Body.{numbers_at}
 use Rattle.energy_hall.specs.Hall.{Named}
 use Rattle.replay_trace.specs.declared.trace.Meaning.{Meaning}
-use Rattle.replay_trace.specs.declared.trace.Meaning.TheVariants as Meaning
 use Rattle.replay_trace.specs.Trace.{row_of, lengths, Says, nothing, says, told, says_of, bytes_of, unsaid, write_tests, write_number, write_of, written}
 use Rattle.replay_trace.specs.Facts.{ToldOnce, LengthsAre, CallFits, Sayable, CallTrips, RecordTrips, RecordWriteFact}
 use Rattle.replay_trace.proofs.TraceLaws as laws

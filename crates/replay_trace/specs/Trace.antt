@@ -29,7 +29,6 @@ use Rattle.energy_calls.specs.declared.calls.Reading.{Reading}
 use Rattle.energy_calls.specs.declared.calls.Call.{Call}
 use Rattle.energy_calls.specs.declared.calls.Call.TheVariants.{Open, Read, Resume, Close, Ask}
 use Rattle.replay_trace.specs.declared.trace.Meaning.{Meaning}
-use Rattle.replay_trace.specs.declared.trace.Meaning.TheVariants as Meaning
 
 -- ---- the table
 
