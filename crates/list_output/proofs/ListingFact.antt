@@ -21,7 +21,7 @@ use Rattle.tpmi_discovery.specs.Table.{bir_of, bar_of, table_of, entries_of}
 use Rattle.tpmi_discovery.specs.Discovery.{discovery_number, discovery_of}
 use Rattle.tpmi_discovery.proofs.TableLaws.{structure_narrow, table_bound, bar_named}
 use Rattle.tpmi_discovery.proofs.DiscoveryFact.{discovery_small}
-use Rattle.list_lines.specs.Listing.{unreadable, answers, capture_in}
+use Rattle.list_lines.specs.Listing.{answers, capture_in}
 use Rattle.list_lines.specs.Line.{line_of}
 use Rattle.list_output.specs.Output.{line_runs, line_text, lines_below, refused_text, unreadable_text, said_text, text_of, longest, list_number, page_left}
 use Rattle.list_output.specs.Facts.{feeds, a_feature, LinesFact, ListingFact}

@@ -10,7 +10,7 @@ use Rattle.words.proofs.Theorems.{unless_fact}
 use Rattle.rapl_domains.specs.Domains.{header_in, domain_number}
 use Rattle.rapl_registers.specs.Contents.{register_at}
 use Rattle.rapl_domains.proofs.DomainLaws.{number_low}
-use Rattle.rapl_permits.specs.Permits.{unwritable, refusal_of}
+use Rattle.rapl_permits.specs.Permits.{refusal_of}
 use Rattle.rapl_writes.specs.Next.{next_content, next_number, next_of}
 use Rattle.rapl_writes.specs.Facts.{NextFact}
 use Rattle.rapl_permits.proofs.PermitFact.{permit_fact}

@@ -3,9 +3,7 @@ use mathlib.Core.Path.{◌≡◌, refl, ap}
 use mathlib.Core.List.{[], ◌∷◌}
 use Rattle.words.proofs.AnswerLaws.{once}
 use Rattle.reasons_mailbox.specs.declared.mailbox.Begun.{Begun}
-use Rattle.reasons_mailbox.specs.declared.mailbox.Begun.TheVariants as Begun
 use Rattle.reasons_mailbox.specs.declared.mailbox.Reply.{Reply}
-use Rattle.reasons_mailbox.specs.declared.mailbox.Reply.TheVariants as Reply
 use Rattle.reasons_mailbox.specs.declared.mailbox.Stepped.{Stepped}
 use Rattle.reasons_mailbox.specs.Mailbox.{Begins, no, begins, Said, waits, stores, ended, refused, nothing, Next, told_begun, told_reply, told}
 use Rattle.reasons_mailbox.specs.Facts.{BegunOnce, ReplyOnce, ToldOnce}

@@ -23,9 +23,7 @@ use Rattle.reasons_mailbox.specs.declared.mailbox.Exchange.{Exchange}
 use Rattle.reasons_mailbox.specs.declared.mailbox.Mailbox.{Mailbox}
 use Rattle.reasons_mailbox.specs.declared.mailbox.Mailbox.TheVariants.{Starting, Ending, Over}
 use Rattle.reasons_mailbox.specs.declared.mailbox.Begun.{Begun}
-use Rattle.reasons_mailbox.specs.declared.mailbox.Begun.TheVariants as Begun
 use Rattle.reasons_mailbox.specs.declared.mailbox.Reply.{Reply}
-use Rattle.reasons_mailbox.specs.declared.mailbox.Reply.TheVariants as Reply
 use Rattle.reasons_mailbox.specs.declared.mailbox.Stepped.{Stepped}
 
 -- ---- an exchange

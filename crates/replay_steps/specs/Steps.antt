@@ -27,7 +27,6 @@ use Rattle.energy_channel.specs.declared.channel.Channel.{Channel}
 use Rattle.records.specs.declared.partial.Partial.{Partial}
 use Rattle.replay_steps.specs.declared.steps.Replay.{Replay}
 use Rattle.replay_steps.specs.declared.steps.Outcome.{Outcome}
-use Rattle.replay_steps.specs.declared.steps.Outcome.TheVariants as Outcome
 use Rattle.replay_steps.specs.declared.steps.Stepped.{Stepped}
 
 abbrev pub most_bytes : ℕ
