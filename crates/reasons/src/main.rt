@@ -5,13 +5,16 @@
 // what bits 63:32, the fine reasons, fold to. At the end come `unfinished` where an exchange is not over, then `unreadable` where bytes are
 // left that are no whole start or test, then, where a read ended, `all`: what the fine bits of all that ended, of any domain, fold to,
 // joined. An input of more than 65,536 bytes is too long, and nothing of it is played.
+#![tactic(auto)]
+
 ghost use Rattle.std.specs.Prelude.{◌≤◌, length};
 
-use libc::{STDIN_FILENO, STDOUT_FILENO};
 use reasons_fold::fold::{fold, joined};
 use reasons_lines::reason_lines::{exchange_line, reasons_line, test_line};
 use reasons_mailbox::mailbox::{Begun, Mailbox, Reply, Stepped, start, step};
 use reasons_registers::mailbox_data;
+use std::io;
+use std::io::Read;
 use text::page::shown;
 use words::bytes::u64_at;
 
@@ -41,16 +44,16 @@ struct Course {
     reads: usize,
 }
 
-fn say(words: &[u8]) {
-    io::write_all(STDOUT_FILENO, words);
+fn say(rt: &impl Print, words: &[u8]) -> io::Result<()> {
+    rt.write_all(words)
 }
 
 // Each page has room for the longest line of its kind: 88 bytes with a label of at most 16 (`ReasonsLineFact` of reasons_lines), 145
 // (`ExchangeLineFact`) and 140 (`TestLineFact`).
-fn say_reasons(label: &[u8], coarse: u64) {
+fn say_reasons(rt: &impl Print, label: &[u8], coarse: u64) -> io::Result<()> {
     let mut page = [0u8; 88];
     let many = reasons_line(&mut page, 0, label, coarse);
-    say(shown(&page, many));
+    say(rt, shown(&page, many))
 }
 
 fn number_of(begun: Begun) -> u8 {
@@ -69,7 +72,7 @@ fn state_of(begun: Begun) -> Mailbox {
 }
 
 // The exchange that five numbers ask for.
-fn started(head: &[u8]) -> Mailbox {
+fn started(rt: &impl Print, head: &[u8]) -> io::Result<Mailbox> {
     let command = u64_at(head, 0);
     let domain = u64_at(head, 8);
     let id = u64_at(head, 16);
@@ -79,19 +82,27 @@ fn started(head: &[u8]) -> Mailbox {
     let number = number_of(begun);
     let mut page = [0u8; 145];
     let many = exchange_line(&mut page, 0, command, domain, id, reasons, tests, number);
-    say(shown(&page, many));
-    state_of(begun)
+    say(rt, shown(&page, many))?;
+    Ok(state_of(begun))
 }
 
-// Test n of an exchange, on the two values that were read.
-fn tested(values: &[u8], n: u64, m: Mailbox) -> Stepped {
+// Test n of an exchange, on the two values that were read. `written` is how the lines went: after one that could not be written there is none.
+fn tested(
+    rt: &impl Print,
+    values: &[u8],
+    n: u64,
+    m: Mailbox,
+    written: &mut io::Result<()>,
+) -> Stepped {
     let interface = u64_at(values, 0);
     let reasons = u64_at(values, 8);
     let s = step(m, interface, reasons);
     let reply = s.reply;
     let mut page = [0u8; 140];
     let many = test_line(&mut page, 0, n, interface, reasons, reply);
-    say(shown(&page, many));
+    if written.is_ok() {
+        *written = say(rt, shown(&page, many));
+    }
     s
 }
 
@@ -104,7 +115,7 @@ fn is_over(m: Mailbox) -> bool {
 }
 
 // The tests of an exchange, until it is over or no whole test is left.
-fn all_tested(rest: &[u8], m: Mailbox) -> Exchanged
+fn all_tested(rt: &impl Print, rest: &[u8], m: Mailbox, written: &mut io::Result<()>) -> Exchanged
     ensures within { result.used ≤ length rest.now }
 {
     let mut used = 0;
@@ -117,7 +128,7 @@ fn all_tested(rest: &[u8], m: Mailbox) -> Exchanged
         if rest.len() - used < 16 {
             break;
         }
-        let s = tested(&rest[used..], n + 1, state);
+        let s = tested(rt, &rest[used..], n + 1, state, written);
         state = s.state;
         reply = s.reply;
         used += 16;
@@ -130,22 +141,27 @@ fn all_tested(rest: &[u8], m: Mailbox) -> Exchanged
 }
 
 // A read that ended: its reasons are said by name, and its data kept. How many there are then.
-fn said_and_kept(reads: &mut [u64], many: usize, reply: Reply) -> usize {
+fn said_and_kept(
+    rt: &impl Print,
+    reads: &mut [u64],
+    many: usize,
+    reply: Reply,
+) -> io::Result<usize> {
     let Reply::Read(reasons) = reply else {
-        return many;
+        return Ok(many);
     };
     let halves = mailbox_data::read(reasons);
-    say_reasons(b"coarse", halves.coarse);
-    say_reasons(b"folded", fold(halves.fine));
+    say_reasons(rt, b"coarse", halves.coarse)?;
+    say_reasons(rt, b"folded", fold(halves.fine))?;
     if many < reads.len() {
         reads[many] = reasons;
-        return many + 1;
+        return Ok(many + 1);
     }
-    many
+    Ok(many)
 }
 
 // The exchanges, one after the other.
-fn played(bytes: &[u8], reads: &mut [u64]) -> Course {
+fn played(rt: &impl Print, bytes: &[u8], reads: &mut [u64]) -> io::Result<Course> {
     let mut used = 0;
     let mut over = true;
     let mut many = 0;
@@ -153,55 +169,57 @@ fn played(bytes: &[u8], reads: &mut [u64]) -> Course {
         if bytes.len() - used < 40 {
             break;
         }
-        let state = started(&bytes[used..]);
+        let state = started(rt, &bytes[used..])?;
         used += 40;
-        let t = all_tested(&bytes[used..], state);
+        let mut written = Ok(());
+        let t = all_tested(rt, &bytes[used..], state, &mut written);
+        written?;
         let left = t.state;
         let reply = t.reply;
         used += t.used;
         over = is_over(left);
-        many = said_and_kept(reads, many, reply);
+        many = said_and_kept(rt, reads, many, reply)?;
         if !over {
             break;
         }
     }
-    Course {
+    Ok(Course {
         used: used,
         over: over,
         reads: many,
-    }
+    })
 }
 
 // What the reads that ended fold to, where there is one.
-fn say_all(reads: &[u64], many: usize) {
+fn say_all(rt: &impl Print, reads: &[u64], many: usize) -> io::Result<()> {
     if many == 0 {
-        return;
+        return Ok(());
     }
     if reads.len() < many {
-        return;
+        return Ok(());
     }
-    say_reasons(b"all", joined(&reads[..many]));
+    say_reasons(rt, b"all", joined(&reads[..many]))
 }
 
-fn say_rest(length: usize, p: Course) {
+fn say_rest(rt: &impl Print, length: usize, p: Course) -> io::Result<()> {
     if !p.over {
-        say(b"unfinished\n");
+        say(rt, b"unfinished\n")?;
     }
     if p.used < length {
-        say(b"unreadable\n");
+        say(rt, b"unreadable\n")?;
     }
+    Ok(())
 }
 
-fn main() {
+fn main(rt: HostRuntime) -> io::Result<()> {
     // One byte more than an input may have.
-    let mut bytes = [0u8; 65537];
-    let length = io::read_full(STDIN_FILENO, &mut bytes);
+    let mut bytes = Vec::new(rt.alloc());
+    let length = rt.reader().take(65537).read_to_end(&mut bytes)?;
     if LONGEST < length {
-        say(b"too long\n");
-        return;
+        return say(&rt, b"too long\n");
     }
     let mut reads = [0u64; READS];
-    let p = played(&bytes[..length], &mut reads);
-    say_rest(length, p);
-    say_all(&reads, p.reads);
+    let p = played(&rt, &bytes, &mut reads)?;
+    say_rest(&rt, length, p)?;
+    say_all(&rt, &reads, p.reads)
 }
