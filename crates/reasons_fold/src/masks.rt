@@ -1,5 +1,5 @@
 // The fold's table: 1,024 coarse masks, entry 256 q + b what byte q of the fine bits folds to where it is b. It is checked once, all of it,
-// against the bit rule (proof of `all_masks`). The formatter has one entry a line.
+// against the bit rule (proof of `all_masks`).
 ghost use Rattle.std.specs.Prelude.{◌≡◌, ◌<◌};
 ghost use Rattle.reasons_fold.specs.Fold.{entry_of, table};
 
