@@ -1,5 +1,5 @@
 -- What is proved of a body, for any table of widths. `BodyFact` is one theorem, to be read without its proof; proofs/Theorems.antt has the
--- proof, `body-fact`.
+-- proof, `body_fact`.
 --   Fit ws vs   as many numbers as widths, and no number has more bytes than its width
 -- Assumes nothing.
 use Rattle.std.specs.Prelude.{ℕ, ◌+◌, ◌^◌, ◌≤◌, ◌<◌, ◌≡◌, List, [], ◌∷◌, ◌++◌, length, take, drop}

@@ -1,7 +1,7 @@
 // Replay of recorded calls, a step at a time: each step takes bytes of a piece up to the end of the first record that is whole then.
 ghost use Rattle.std.specs.Prelude.{◌≡◌, ◌+◌, ◌≤◌, true, take};
 ghost use Rattle.records.specs.Machine.{keeps, after_by};
-ghost use Rattle.replay_trace.specs.Trace.{says_of, told as toldMeaning};
+ghost use Rattle.replay_trace.specs.Trace.{says_of, told as told_meaning};
 ghost use Rattle.replay_steps.specs.Steps.{most_bytes, acts, reader_of, told, begins, step_by, step_of, end_of};
 
 use energy_calls::calls::Answered;
@@ -81,7 +81,7 @@ fn standing(channels: [Channel; 64], p: Partial, used: usize) -> Stepped
 // What the held bytes say.
 fn meaning_of(bytes: [u8; 32], held: usize) -> Meaning
     requires { held ≤ 32 }
-    ensures answer { toldMeaning result ≡ says_of (take held bytes) }
+    ensures answer { told_meaning result ≡ says_of (take held bytes) }
 {
     call_of(&bytes[0..held])
 }

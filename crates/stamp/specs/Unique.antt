@@ -343,8 +343,8 @@ pub record SweepReadingsUnique : Type 0 where
   pub sweep_array : Only sweep-readings-sweep-array.Post
   pub sweep_array_kept : Fixes (λ κs x s. s.1.1.0.now) sweep-readings-sweep-array.Post
 
--- (The prover reads no contract of a function over a lent list of records; what `sweep`'s says, and that it says nothing else, stands in
--- proofs/lent/unread of its crate.)
+-- (What the contract of `sweep` says stands as a plain statement in proofs/lent/unread of its crate, with proofs that the contract and the
+-- prover's reading of it say nothing else.)
 pub record SweepLentUnique : Type 0 where
   pub sweep : Only sweep-lent-sweep.Post
   pub sweep_channels : Fixes (λ κs x s. s.0.now) sweep-lent-sweep.Post
