@@ -4,17 +4,12 @@
 
 mod limits;
 
+use limits::Bench;
 use std::io;
 
-// Two BAR captures with the same bytes, of which tBIR names the second.
 fn main(rt: HostRuntime) -> io::Result<()> {
-    let mut config = [0u8; 4096];
-    let mut low = [0u8; 6352];
-    let mut high = [0u8; 6352];
-    limits::set_config(&mut config);
-    limits::set_domains(&mut low);
-    limits::set_domains(&mut high);
-    limits::limits(&rt, &config, &mut low, &mut high)?;
-    limits::refusals(&rt, &config, &mut low, &mut high)?;
-    limits::locked(&rt, &config, &mut low, &mut high)
+    let mut bench = Bench::new();
+    bench.limits(&rt)?;
+    bench.refusals(&rt)?;
+    bench.locked(&rt)
 }

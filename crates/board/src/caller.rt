@@ -1,19 +1,10 @@
 // A caller's example, as README shows it: a capture in, the first power limit of a domain out, in the domain's power units, or the refusal.
-use rapl_limits::limit;
+use capture::places::Capture;
+use rapl_limits::limit::Limit;
 use rapl_lookups::lookups;
-use words::answers::Value;
+use words::answers::Refusal;
 
-pub(crate) fn limit_1<'a>(
-    config: &[u8],
-    lo: u8,
-    low: &'a [u8],
-    hi: u8,
-    high: &'a [u8],
-    n: u64,
-) -> Value {
-    let came = lookups::register(config, lo, low, hi, high, 0, n, 2);
-    let Value::Is(register) = came else {
-        return came;
-    };
-    Value::Is(limit::read(register).power)
+pub(crate) fn limit_1(capture: Capture, n: u64) -> Result<u64, Refusal> {
+    let register = lookups::register(capture, 0, n, 2)?;
+    Ok(Limit::from(register).power)
 }

@@ -5,17 +5,24 @@
 mod caller;
 mod example;
 
+use capture::places::Capture;
 use std::io;
 
 // The first BAR capture is empty; tBIR names the second.
 fn main(rt: HostRuntime) -> io::Result<()> {
     let mut config = [0u8; 4096];
-    let low = [0u8; 0];
     let mut high = [0u8; 6480];
     example::set_config(&mut config);
     example::set_domains(&mut high);
-    example::domains(&rt, &config, &low, &high)?;
-    example::registers(&rt, &config, &low, &high)?;
-    example::chains(&rt, &config, &low, &high)?;
-    example::limits(&rt, &config, &low, &high)
+    let capture = Capture {
+        config: &config,
+        lo: 0,
+        low: &[],
+        hi: 1,
+        high: &high,
+    };
+    example::domains(&rt, capture)?;
+    example::registers(&rt, capture)?;
+    example::chains(&rt, capture)?;
+    example::limits(&rt, capture)
 }

@@ -1,19 +1,18 @@
--- What each case of the code's enum says in document 01's words.
+-- What a lookup of a place says in document 01's words.
 -- Assumes nothing.
-use Rattle.std.specs.Prelude.{ℕ, List, [], ◌∷◌}
-use Rattle.words.specs.Answers.{Answer, refused, gives}
+use Rattle.std.specs.Prelude.{ℕ, List, [], ◌∷◌, Result}
+use Rattle.words.specs.Answers.{Answer}
 use Rattle.words.specs.Facts.{Once}
+use Rattle.words.specs.Told.{told_by}
+use Rattle.words.specs.declared.answers.Refusal.{Refusal}
 use Rattle.capture.specs.declared.places.Place.{Place}
-use Rattle.capture.specs.declared.places.Found.{Found}
-use Rattle.capture.specs.declared.places.Found.TheVariants.{At, Refused}
 
 -- BAR number, start, bytes of a piece, pieces
 abbrev pub numbers : Place → List ℕ
 numbers p = p.bir ∷ p.start ∷ p.size ∷ p.count ∷ []
 
-abbrev pub told : Found → Answer
-told (At p) = gives (numbers p)
-told (Refused n) = refused n
+abbrev pub told : Result Place Refusal → Answer
+told = told_by numbers
 
 -- Two answers that say the same are the same.
 abbrev pub ToldOnce : Type 0

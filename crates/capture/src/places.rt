@@ -1,8 +1,17 @@
-// Places in the two BAR captures: what a lookup answers, which of the two captures is meant, and the bytes of a piece.
+// A capture, the places in it that a lookup answers, which of its two BAR captures is meant, and the bytes of a piece.
 ghost use Rattle.std.specs.Prelude.{◌≡◌};
-ghost use Rattle.words.specs.Answers.{number_in};
-ghost use Rattle.capture.specs.Places.{named, piece, part_of};
-ghost use Rattle.capture.specs.Told.{told};
+ghost use Rattle.capture.specs.Capture.{capture_of};
+ghost use Rattle.capture.specs.Places.{bar_in, part_in, piece};
+
+// A configuration space, and two BAR captures, each with its number.
+#[derive(Clone, Copy)]
+pub struct Capture<'a> {
+    pub config: &'a [u8],
+    pub lo: u8,
+    pub low: &'a [u8],
+    pub hi: u8,
+    pub high: &'a [u8],
+}
 
 // `count` pieces of `size` bytes each, one after the other from `start` on, in the BAR capture with the number `bir`: a bank of instances,
 // one instance, one register.
@@ -12,35 +21,6 @@ pub struct Place {
     pub start: usize,
     pub size: usize,
     pub count: u64,
-}
-
-#[derive(Clone, Copy)]
-pub enum Found {
-    At(Place),
-    Refused(u8),
-}
-
-// The refusal's number, 0 where something was found.
-pub fn number_of(found: Found) -> u8
-    ensures answer { result ≡ number_in (told found) }
-{
-    match found {
-        Found::At(_) => 0,
-        Found::Refused(n) => n,
-    }
-}
-
-// The BAR capture with the number `bir`; the empty part where it is neither of the two.
-pub fn bar_of<'a>(bir: u8, lo: u8, low: &'a [u8], hi: u8, high: &'a [u8]) -> &'a [u8]
-    ensures part { result.now ≡ named bir lo low.now hi high.now }
-{
-    if bir == lo {
-        return low;
-    }
-    if bir == hi {
-        return high;
-    }
-    &low[0..0]
 }
 
 // `size` bytes from `start` on; none where they pass the end.
@@ -57,9 +37,24 @@ fn piece(s: &[u8], start: usize, size: usize) -> &[u8]
     &s[start..end]
 }
 
-// The bytes of one piece at a place, a part of the BAR capture with its number; none where they pass its end.
-pub fn part_of<'a>(p: Place, lo: u8, low: &'a [u8], hi: u8, high: &'a [u8]) -> &'a [u8]
-    ensures part { result.now ≡ part_of p lo low.now hi high.now }
-{
-    piece(bar_of(p.bir, lo, low, hi, high), p.start, p.size)
+impl<'a> Capture<'a> {
+    // The BAR capture with the number `bir`; the empty part where it is neither of the two.
+    pub fn bar(self, bir: u8) -> &'a [u8]
+        ensures part { result.now ≡ bar_in (capture_of self.entry) bir }
+    {
+        if bir == self.lo {
+            return self.low;
+        }
+        if bir == self.hi {
+            return self.high;
+        }
+        &self.low[0..0]
+    }
+
+    // The bytes of one piece at a place, a part of the BAR capture with its number; none where they pass its end.
+    pub fn part(self, p: Place) -> &'a [u8]
+        ensures part { result.now ≡ part_in (capture_of self.entry) p }
+    {
+        piece(self.bar(p.bir), p.start, p.size)
+    }
 }

@@ -8,6 +8,7 @@ use native.Mathlib.Numerals.{add-one}
 use lib.Dec.{ltb, eqb}
 use lib.ListN.{length, get_or, take, length-replicate}
 use lib.Seq.{take_all}
+use Rattle.std.proofs.lemmas.List.Sums.{sum_by_more}
 use Rattle.words.specs.Answers.{unless, gives, first}
 use Rattle.energy_channel.specs.Channel.{closed, is_open, rise, tests, refusal_of, values, taken, share}
 use Rattle.energy_hall.specs.Hall.{all_closed, tests_on, answer_on, leaves_on, leaves_all, answers_to, shares, hall_total, accepted}
@@ -19,7 +20,7 @@ use Rattle.energy_calls.specs.declared.calls.Call.{Call}
 use Rattle.energy_calls.specs.declared.calls.Call.TheVariants.{Open, Read, Resume, Close, Ask}
 use Rattle.energy_channel.specs.declared.channel.Channel.{Channel}
 use Rattle.energy_channel.proofs.ChannelLaws.{open_live, open_holds, open_if, share_closed}
-use Rattle.energy_hall.proofs.HallLaws.{shares_more}
+use Rattle.energy_hall.proofs.HallLaws.{shares_summed}
 use Rattle.energy_channel.proofs.Accepted.{opens_past, reads_past, resumes_past}
 use Rattle.energy_hall.proofs.Runs.{own_entered, passed_over, closed_at, length_leaves, length_run}
 
@@ -164,8 +165,9 @@ shares_parts : (u : ℕ) (cs : List Channel) (f : ℕ → Account) (i : ℕ) →
     → ((k : ℕ) → k < i → Agrees (get_or cs k closed) (f k)) → shares u (take i cs) ≡ parts i u f
 shares_parts u cs f zero h g = refl
 shares_parts u cs f (suc i) h g =
-    let r = shares_more u cs i (omega arith) in
-    (rw add-one at r) ∙ omega (arith, shares_parts u cs f i (omega arith) (λ k l. g k (omega arith)), share_part u _ (f i) (g i (omega arith)))
+    let more = rw add-one at (sum_by_more (share u) cs i closed (omega arith)) in
+    let before = shares_parts u cs f i (omega arith) (λ k l. g k (omega arith)) in
+    omega (arith, shares_summed u (take (suc i) cs), more, shares_summed u (take i cs), before, share_part u _ (f i) (g i (omega arith)))
 
 pub hall_demand3 : HallDemand3
 unfolding hall_total

@@ -1,7 +1,6 @@
-// What a call on a channel carries, and what it answers.
+// What a call on a channel carries.
 ghost use Rattle.std.specs.Prelude.{◌≡◌};
-ghost use Rattle.words.specs.Answers.{number_in};
-ghost use Rattle.energy_calls.specs.Calls.{reading_of, opening_of, count_of, told};
+ghost use Rattle.energy_calls.specs.Calls.{reading_of, opening_of, count_of};
 
 // What is seen at a moment: the tick in ms, the status register, and the boot number of the machine, which each of its restarts changes.
 #[derive(Clone, Copy)]
@@ -29,48 +28,26 @@ pub enum Call {
     Ask,
 }
 
-// Opening, reading and resuming are accepted with nothing to give; closing and asking give the total.
-#[derive(Clone, Copy)]
-pub enum Answered {
-    Accepted,
-    Total(u64),
-    Refused(u8),
-}
-
 pub fn reading_of(tick: u64, status: u64, boot: u32) -> Reading
     ensures answer { result ≡ reading_of tick status boot }
 {
-    Reading {
-        tick: tick,
-        status: status,
-        boot: boot,
-    }
+    Reading { tick, status, boot }
 }
 
 pub fn opening_of(unit: u64, gap: u32, tick: u64, status: u64, boot: u32) -> Opening
     ensures answer { result ≡ opening_of unit gap tick status boot }
 {
     Opening {
-        unit: unit,
-        gap: gap,
+        unit,
+        gap,
         seen: reading_of(tick, status, boot),
     }
 }
 
 // The count is bits 31:0 of the status register.
+#[tactic(auto, using(fields::proofs::FieldLaws::field_lt))]
 pub fn count_of(status: u64) -> u32
     ensures answer { result ≡ count_of status }
 {
     fields::bits::field(status, 0, 32) as u32
-}
-
-// The refusal's number, 0 where the call was accepted.
-pub fn number_of(answered: Answered) -> u8
-    ensures answer { result ≡ number_in (told answered) }
-{
-    match answered {
-        Answered::Accepted => 0,
-        Answered::Total(_) => 0,
-        Answered::Refused(n) => n,
-    }
 }

@@ -3,44 +3,41 @@ ghost use Rattle.std.specs.Prelude.{◌≡◌};
 ghost use Rattle.energy_calls.specs.Calls.{told};
 ghost use Rattle.energy_hall.specs.Hall.{all_closed, answer_on, leaves_on, hall_total};
 
-use energy_calls::calls::{Answered, Call, Opening, Reading};
+use energy_calls::calls::{Call, Opening, Reading};
 use energy_channel::channel::{Channel, closed_channel};
+use words::answers::Refusal;
 
 // The channels after a call, and the call's answer.
 #[derive(Clone, Copy)]
 pub struct HallAfter {
     pub channels: [Channel; 64],
-    pub answer: Answered,
+    pub answer: Result<Option<u64>, Refusal>,
 }
 
 // All channels closed, as they are at first.
 pub fn all_closed() -> [Channel; 64]
     ensures answer { result ≡ all_closed }
 {
-    let c = closed_channel();
-    [c; 64]
+    [closed_channel(); 64]
 }
 
 // Any call on channel n: 12 where there is none, else what the call does to that channel, put back in its place.
-pub fn call_on(channels: [Channel; 64], n: usize, call: Call) -> HallAfter
+#[tactic(auto, using(crate::proofs::HallLaws::answer_12, crate::proofs::HallLaws::answer_own, crate::proofs::HallLaws::leaves_12, crate::proofs::HallLaws::leaves_own))]
+pub fn call_on(mut channels: [Channel; 64], n: usize, call: Call) -> HallAfter
     ensures answer { told result.answer ≡ answer_on channels n call }
     ensures kept { result.channels ≡ leaves_on channels n call }
 {
-    if n > 63 {
+    if n >= channels.len() {
         return HallAfter {
-            channels: channels,
-            answer: Answered::Refused(12),
+            channels,
+            answer: Err(Refusal(12)),
         };
     }
-    let mut cs = channels;
-    let c = cs[n];
-    let after = c.take(call);
-    let left = after.channel;
-    let answer = after.answer;
-    cs[n] = left;
+    let after = channels[n].take(call);
+    channels[n] = after.channel;
     HallAfter {
-        channels: cs,
-        answer: answer,
+        channels,
+        answer: after.answer,
     }
 }
 
@@ -74,26 +71,18 @@ pub fn close(channels: [Channel; 64], n: usize) -> HallAfter
 }
 
 // Asking changes no channel, so none comes back.
-pub fn total(channels: [Channel; 64], n: usize) -> Answered
+pub fn total(channels: [Channel; 64], n: usize) -> Result<Option<u64>, Refusal>
     ensures answer { told result ≡ answer_on channels n Call.Ask }
 {
-    let after = call_on(channels, n, Call::Ask);
-    after.answer
+    call_on(channels, n, Call::Ask).answer
 }
 
 // The sum over the open channels of one energy unit.
-pub fn hall_total(channels: [Channel; 64], unit: u64) -> Answered
+pub fn hall_total(channels: [Channel; 64], unit: u64) -> Result<Option<u64>, Refusal>
     ensures answer { told result ≡ hall_total channels unit }
 {
     if unit > 31 {
-        return Answered::Refused(17);
+        return Err(Refusal(17));
     }
-    let mut sum: u64 = 0;
-    let mut i: usize = 0;
-    while i < 64 {
-        let c = channels[i];
-        sum += c.share(unit);
-        i += 1;
-    }
-    Answered::Total(sum)
+    Ok(Some(channels.iter().map(|c| c.share(unit)).sum()))
 }

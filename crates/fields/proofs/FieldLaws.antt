@@ -120,13 +120,18 @@ with_moved p w x v =
     let whole : (x / 2 ^ (p + w) * 2 ^ w * 2 ^ p + x / 2 ^ p % 2 ^ w * 2 ^ p) + x % 2 ^ p ≡ x = simp (mod-mod, add-mul) at (with_field_law p w x v) in
     rw add-mul (omega arith)
 
--- in 64 bits neither is cut
-module _ (p w x v : ℕ) (h : p + w ≤ 64) (l : x < 2 ^ 64) where
-  pub old_whole : field p w x * 2 ^ p % 2 ^ 64 ≡ field p w x * 2 ^ p
-  old_whole = mod-eq_of_lt (lt_of_le_of_lt (part_le p w x) l)
+-- in 64 bits neither is cut: f is what the field held and g what it is to hold, a and b are they moved up to its place
+module _ (p w x v : ℕ) (h : p + w ≤ 64) (l : x < 2 ^ 64) {f a : ℕ} (held : f ≡ field p w x) (old : a ≡ f * 2 ^ p % 2 ^ 64) where
+  taken : a ≡ field p w x * 2 ^ p
+  taken = old ∙ ap (λ (y : ℕ). y * 2 ^ p % 2 ^ 64) held ∙ mod-eq_of_lt (lt_of_le_of_lt (part_le p w x) l)
 
-  pub new_whole : v % 2 ^ w * 2 ^ p % 2 ^ 64 ≡ v % 2 ^ w * 2 ^ p
-  new_whole = shl_exact w p 64 (below v w) (omega arith)
+  pub taken_le : a ≤ x
+  taken_le = rw taken (part_le p w x)
+
+  pub taken_added : {g b : ℕ} → g ≡ v % 2 ^ w → b ≡ g * 2 ^ p % 2 ^ 64 → x - a + b ≡ with_field p w x v
+  taken_added {g} {b} low new =
+      let added : b ≡ v % 2 ^ w * 2 ^ p = new ∙ ap (λ (y : ℕ). y * 2 ^ p % 2 ^ 64) low ∙ shl_exact w p 64 (below v w) (omega arith) in
+      rw (taken, added) (with_moved p w x v)
 
 -- the number up to the field's end
 pub with_mod : (p w x v : ℕ) → with_field p w x v % 2 ^ (p + w) ≡ v % 2 ^ w * 2 ^ p + x % 2 ^ p

@@ -1,20 +1,19 @@
--- Laws for the code over a table of fields: when values make no word, and how the loop goes on from field i. Assumes nothing.
-use Prim.Native.Nat.{ℕ, ◌+◌, ◌^◌, ◌≤◌, ◌<◌}
+-- Laws for the code over a table of fields: when values make no word, and what the fields that are left make of it. Assumes nothing.
+use Prim.Native.Nat.{ℕ, ◌+◌, ◌-◌, ◌^◌, ◌≤◌, ◌<◌}
 use mathlib.Core.Path.{◌≡◌, sym, ◌∙◌, subst}
 use mathlib.Core.Logic.{◌≢◌}
-use mathlib.Core.Bool.{true, false, not}
-use mathlib.Core.List.{List}
-use native.Mathlib.Nat.{div-one, mod-eq_of_lt}
-use native.Mathlib.Numerals.{add-one}
+use mathlib.Core.Bool.{true, false, not, ◌||◌}
+use mathlib.Core.List.{List, [], ◌∷◌}
+use native.Mathlib.Nat.{div-one, mod-eq_of_lt, zero-add, add-zero, add_assoc}
 use native.Mathlib.Decide.{dec_le}
 use native.Mathlib.Omega.{arith}
 use borrow.Author.Tests.{le-leb, lt-ltb, le-ltb, ltb-false, eqb-true, eq-eqb, ne_eqb, not-false}
 use lib.Dec.{ltb, eqb}
-use lib.ListN.{length, get_or, drop, drop_of_length-le}
-use lib.Seq.{drop-cons}
+use lib.ListN.{length}
+use Rattle.words.specs.Answers.{Answer, refused, gives, unless, first}
 use Rattle.fields.specs.Bits.{field, field_stored}
-use Rattle.fields.specs.Tables.{with_fields, total, Fit, wider, misfit}
-use Rattle.words.proofs.TestLaws.{or_second, or_neither}
+use Rattle.fields.specs.Tables.{with_fields, total, Fit, wider, misfit, written_word}
+use Rattle.words.proofs.TestLaws.{or_take, or_second, or_neither}
 use Rattle.fields.proofs.FieldLaws.{field_lt}
 use Rattle.fields.proofs.TableLaws.{wider_skip, narrow_fit}
 
@@ -24,14 +23,6 @@ module _ (ws vs : List ℕ) where
   pub misfit_long : length ws ≢ length vs → misfit ws vs ≡ true
   unfolding misfit
   misfit_long h = rw (ne_eqb _ _ h)
-
-  pub misfit_past : length ws ≡ length vs → 64 < total ws → misfit ws vs ≡ true
-  unfolding misfit
-  misfit_past e h = rw (eq-eqb _ _ e, lt-ltb _ _ h)
-
-  pub misfit_wide : wider ws vs ≡ true → misfit ws vs ≡ true
-  unfolding misfit
-  misfit_wide h = or_second (not (eqb (length ws) (length vs))) (or_second (ltb 64 (total ws)) h)
 
   -- a value for each field of a table in 64 bits: the widths decide
   pub misfit_table : length ws ≡ length vs → total ws ≤ 64 → misfit ws vs ≡ wider ws vs
@@ -61,31 +52,36 @@ held_wide w v e t = by (dec_le (2 ^ w) v)
     by (yes l) = l
     by (no l) = absurd (t (e ∙ held_whole w v (omega arith)))
 
--- ---- from field i on: at the end, and one step
+-- ---- a loop over the fields: what those that are left make of the word x, from place p on
 
-module _ (ws vs : List ℕ) (i : ℕ) where
-  module _ (l : length ws ≤ i) where
-    pub total_end : total (drop i ws) ≡ 0
-    total_end = rw (drop_of_length-le ws l)
+-- 17, or the word with their values in it
+abbrev pub rest_word : ℕ → ℕ → List ℕ → List ℕ → Answer
+rest_word p x ws vs = unless (first ((ltb 64 (p + total ws) || wider ws vs, 17) ∷ [])) (gives (with_fields p ws x vs ∷ []))
 
-    pub wider_end : wider (drop i ws) (drop i vs) ≡ false
-    unfolding wider
-    wider_end = rw (drop_of_length-le ws l)
+-- all of them
+pub rest_all : (ws vs : List ℕ) → length ws ≡ length vs → rest_word 0 0 ws vs ≡ written_word ws vs
+unfolding written_word misfit
+rest_all ws vs e = rw (eq-eqb _ _ e, zero-add)
 
-    pub with_end : (p x : ℕ) → with_fields p (drop i ws) x (drop i vs) ≡ x
-    unfolding with_fields
-    with_end p x = rw (drop_of_length-le ws l)
+-- none
+pub rest_none : (p x : ℕ) {us : List ℕ} (ts : List ℕ) → us ≡ [] → p ≤ 64 → rest_word p x us ts ≡ gives (x ∷ [])
+unfolding first wider with_fields
+rest_none p x ts e h = rw (e, add-zero, le-ltb 64 p h)
 
-  module _ (k : i < length ws) where
-    pub total_next : get_or ws i 0 + total (drop (i + 1) ws) ≡ total (drop i ws)
-    total_next = rw (add-one, drop-cons ws i 0 k)
+-- the next one has w bits and holds v
+module _ (p x : ℕ) {w v : ℕ} {us ts ws vs : List ℕ} (e : (us ≡ w ∷ ws) × (ts ≡ v ∷ vs)) where
+  rest_misfit : (ltb 64 (p + (w + total ws)) || wider (w ∷ ws) (v ∷ vs)) ≡ true → rest_word p x us ts ≡ refused 17
+  unfolding first
+  rest_misfit h = rw (e.0, e.1, h)
 
-    module _ (l : i < length vs) where
-      pub wider_next : get_or vs i 0 < 2 ^ get_or ws i 0 → wider (drop (i + 1) ws) (drop (i + 1) vs) ≡ wider (drop i ws) (drop i vs)
-      wider_next h = rw (add-one, drop-cons ws i 0 k, drop-cons vs i 0 l) (sym (wider_skip (get_or ws i 0) (get_or vs i 0) _ _ h))
+  pub rest_past : p ≤ 64 → 64 - p < w → rest_word p x us ts ≡ refused 17
+  rest_past l h = rest_misfit (or_take (wider (w ∷ ws) (v ∷ vs)) (lt-ltb 64 (p + (w + total ws)) (omega arith)))
 
-      -- y is the word with field i as the code has it
-      pub with_next : (n p x : ℕ) {y : ℕ} → p + get_or ws i 0 ≤ n → y ≡ field_stored n p (get_or ws i 0) x (get_or vs i 0)
-          → with_fields (p + get_or ws i 0) (drop (i + 1) ws) y (drop (i + 1) vs) ≡ with_fields p (drop i ws) x (drop i vs)
-      unfolding with_fields
-      with_next n p x h e = rw (e, le-leb (p + get_or ws i 0) n h, add-one, drop-cons ws i 0 k, drop-cons vs i 0 l)
+  pub rest_wide : 2 ^ w ≤ v → rest_word p x us ts ≡ refused 17
+  unfolding wider
+  rest_wide h = rest_misfit (or_second (ltb 64 (p + (w + total ws))) (or_take (wider ws vs) (le-leb (2 ^ w) v h)))
+
+  -- y is the word with the field as the code has it
+  pub rest_next : {y : ℕ} → p + w ≤ 64 → v < 2 ^ w → y ≡ field_stored 64 p w x v → rest_word (p + w) y ws vs ≡ rest_word p x us ts
+  unfolding with_fields
+  rest_next l h s = rw (e.0, e.1, s, le-leb (p + w) 64 l, wider_skip w v ws vs h, add_assoc)

@@ -3,13 +3,15 @@ ghost use Rattle.std.specs.Prelude.{◌≡◌, ◌*◌, ◌/◌, ◌%◌, ◌^�
 ghost use Rattle.fields.specs.Bits.{field, field_stored};
 
 // What stands from place `at` on.
+#[tactic(auto, using(crate::proofs::Shifts::shr_out))]
 fn above(x: u64, at: u32) -> u64
     ensures answer { result ≡ x / 2 ^ at }
 {
-    if at < 64 { x >> at } else { 0 }
+    x.checked_shr(at).unwrap_or(0)
 }
 
 // The `width` low bits.
+#[tactic(auto, using(crate::proofs::Shifts::mod_out))]
 fn low(x: u64, width: u32) -> u64
     ensures answer { result ≡ x % 2 ^ width }
 {
@@ -17,13 +19,15 @@ fn low(x: u64, width: u32) -> u64
 }
 
 // `x` moved up to place `at`; what passes bit 63 is lost.
+#[tactic(auto, using(crate::proofs::Shifts::shl_out))]
 fn moved(x: u64, at: u32) -> u64
     ensures answer { result ≡ x * 2 ^ at % 2 ^ 64 }
 {
-    if at < 64 { x << at } else { 0 }
+    x.checked_shl(at).unwrap_or(0)
 }
 
 // The field of `x`; bits past 63 read 0.
+#[tactic(auto, unfolding(crate::specs::Bits::field))]
 pub fn field(x: u64, at: u32, width: u32) -> u64
     ensures answer { result ≡ field at width x }
 {
@@ -34,10 +38,7 @@ pub fn field(x: u64, at: u32, width: u32) -> u64
 pub fn with_field(x: u64, at: u32, width: u32, v: u64) -> u64
     ensures answer { result ≡ field_stored 64 at width x v }
 {
-    if 64 < at {
-        return x;
-    }
-    if 64 - at < width {
+    if 64 < at || 64 - at < width {
         return x;
     }
     x - moved(field(x, at, width), at) + moved(low(v, width), at)

@@ -7,6 +7,6 @@ mod structures;
 use std::io;
 
 fn main(rt: HostRuntime) -> io::Result<()> {
-    structures::structure(&rt)?;
-    structures::entry(&rt)
+    structures::vsec(&rt)?;
+    structures::pfs(&rt)
 }

@@ -1,79 +1,76 @@
 // Structures by themselves: document 01's VSEC structure and PFS entry, read and written back.
 use report::endings::{outcome, refusal};
 use std::io;
-use text::numerals::{hex, labelled, labelled_hex};
-use text::page::{put, shown};
+use text::page::Page;
 use tpmi_entries::entry;
-use words::bytes::u8_at;
+use tpmi_structure::structure;
+use words::answers::Refusal;
 
 // The bytes of a part in their order, two digits each.
-fn bytes(page: &mut [u8], from: usize, part: &[u8]) -> usize {
-    let mut at = from;
-    for k in 0..part.len() {
-        let b = u8_at(part, k) as u64;
-        at = labelled_hex(page, at, b" ", b / 16);
-        at = hex(page, at, b % 16);
+fn bytes(rt: &impl Print, part: &[u8]) -> io::Result<()> {
+    for b in part {
+        print!(rt; " {b:02x}")?;
     }
-    at
+    Ok(())
+}
+
+// What came, at the end of a line. No ending of these has more than 14 bytes.
+fn ends<F: FnOnce(&mut Page)>(rt: &impl Print, ending: F) -> io::Result<()>
+    requires { F.IsAlwaysCallable ending }
+{
+    let mut bytes = [0u8; 14];
+    let mut page = Page {
+        bytes: &mut bytes,
+        at: 0,
+    };
+    ending(&mut page);
+    rt.write_all(page.shown())
 }
 
 // A part that was written back, and what came of it.
-fn back(rt: &impl Print, part: &[u8], came: u8) -> io::Result<()> {
-    let mut page = [0u8; 128];
-    let mut at = put(&mut page, 0, b"  written back");
-    at = bytes(&mut page, at, part);
-    at = outcome(&mut page, at, came);
-    rt.write_all(shown(&page, at))
+fn back(rt: &impl Print, part: &[u8], came: Result<(), Refusal>) -> io::Result<()> {
+    print!(rt; "  written back")?;
+    bytes(rt, part)?;
+    ends(rt, |page| outcome(page, came))
 }
 
 // Read, and written to a blank part.
-pub(crate) fn structure(rt: &impl Print) -> io::Result<()> {
-    let part: [u8; 16] = [
+pub(crate) fn vsec(rt: &impl Print) -> io::Result<()> {
+    let part = [
         0x0B, 0x00, 0x01, 0x00, 0x42, 0x00, 0x01, 0x01, 0x00, 0x00, 0x02, 0x02, 0x01, 0x08, 0x00,
         0x00,
     ];
-    let mut page = [0u8; 128];
-    let mut at = put(&mut page, 0, b"VSEC");
-    at = bytes(&mut page, at, &part);
-    match tpmi_structure::structure::read(&part) {
-        tpmi_structure::structure::Decoded::Structure(v) => {
-            at = labelled(&mut page, at, b": entries ", v.entries);
-            at = labelled(&mut page, at, b", tBIR ", v.bir);
-            at = labelled(&mut page, at, b", table at ", v.offset);
-            at = put(&mut page, at, b"\n");
-            rt.write_all(shown(&page, at))?;
+    print!(rt; "VSEC")?;
+    bytes(rt, &part)?;
+    match structure::read(&part) {
+        Ok(v) => {
+            println!(rt;
+                ": entries {}, tBIR {}, table at {}",
+                v.entries, v.bir, v.offset
+            )?;
             let mut blank = [0u8; 16];
-            let came = tpmi_structure::structure::write(&mut blank, v);
+            let came = structure::write(&mut blank, v);
             back(rt, &blank, came)
         }
-        tpmi_structure::structure::Decoded::Refused(n) => {
-            at = refusal(&mut page, at, n);
-            rt.write_all(shown(&page, at))
-        }
+        Err(r) => ends(rt, |page| refusal(page, r)),
     }
 }
 
-pub(crate) fn entry(rt: &impl Print) -> io::Result<()> {
-    let part: [u8; 8] = [0x00, 0x01, 0x60, 0x00, 0x04, 0x00, 0x01, 0x00];
-    let mut page = [0u8; 128];
-    let mut at = put(&mut page, 0, b"PFS");
-    at = bytes(&mut page, at, &part);
+pub(crate) fn pfs(rt: &impl Print) -> io::Result<()> {
+    let part = [0x00, 0x01, 0x60, 0x00, 0x04, 0x00, 0x01, 0x00];
+    print!(rt; "PFS")?;
+    bytes(rt, &part)?;
     match entry::read(&part) {
-        entry::Decoded::Structure(e) => {
-            at = labelled(&mut page, at, b": TPMI_ID ", e.id);
-            at = labelled(&mut page, at, b", entries ", e.instances);
-            at = labelled(&mut page, at, b" of ", e.words);
-            at = labelled(&mut page, at, b" words at ", e.offset);
-            at = labelled(&mut page, at, b" KiB, attribute ", e.attribute);
-            at = put(&mut page, at, b"\n");
-            rt.write_all(shown(&page, at))?;
+        Ok(e) => {
+            print!(rt;
+                ": TPMI_ID {}, entries {} of {} words",
+                e.id, e.instances, e.words
+            )?;
+            println!(rt; " at {} KiB, attribute {}", e.offset, e.attribute)?;
             let mut blank = [0u8; 8];
             let came = entry::write(&mut blank, e);
             back(rt, &blank, came)
         }
-        entry::Decoded::Refused(n) => {
-            at = refusal(&mut page, at, n);
-            rt.write_all(shown(&page, at))
-        }
+        Err(r) => ends(rt, |page| refusal(page, r)),
     }
 }

@@ -1,10 +1,9 @@
 // Lists the features of a capture on standard input, or says why it does not.
 #![tactic(auto)]
 
+use list_output::output::list;
 use std::io;
 use std::io::Read;
-use text::page::shown;
-use words::answers::Value;
 
 fn main(rt: HostRuntime) -> io::Result<()> {
     // The longest input that is looked at: a configuration space and two captures of 65,536 bytes with their heads.
@@ -12,9 +11,6 @@ fn main(rt: HostRuntime) -> io::Result<()> {
     rt.reader().take(135178).read_to_end(&mut input)?;
     // As long as the longest listing, so that none is refused.
     let mut page = [0u8; 15810];
-    let listed = list_output::output::list(&input, &mut page);
-    let Value::Is(many) = listed else {
-        return Ok(());
-    };
-    rt.write_all(shown(&page, many as usize))
+    let many = list(&input, &mut page).unwrap_or(0) as usize;
+    rt.write_all(page.get(..many).unwrap_or(&page))
 }

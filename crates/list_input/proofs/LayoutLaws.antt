@@ -1,6 +1,7 @@
 -- The layout of an input: when it is readable, and what is known of its parts then. Assumes nothing.
 use Prim.Native.Nat.{ℕ, ◌+◌, ◌≤◌, ◌<◌}
-use mathlib.Core.Path.{◌≡◌, refl, sym, ◌∙◌}
+use Rattle.std.specs.Prelude.{Some, None}
+use mathlib.Core.Path.{◌≡◌, refl, sym, ap, ◌∙◌}
 use mathlib.Core.Bool.{Bool, true, false, cond}
 use mathlib.Core.List.{List, [], ◌∷◌}
 use native.Mathlib.Omega.{arith}
@@ -11,10 +12,18 @@ use Rattle.words.specs.Bytes.{number_at}
 use Rattle.words.proofs.TestLaws.{and_first, and_second, and_holds, and_both}
 use Rattle.list_input.specs.Layout.{first_of, middle_of, second_of, end_of, readable, layout_of, config_in, low_in, high_in}
 use Rattle.list_input.specs.Told.{told}
-use Rattle.list_input.specs.declared.layout.Laid.TheVariants.{Out}
 use Rattle.list_input.specs.declared.layout.Layout.{Layout}
 
 module _ (s : List ℕ) where
+  -- the lengths that are read are the definition's
+  pub first_read : {x : ℕ} → x ≡ number_at s 4097 4 → x ≡ first_of s
+  unfolding first_of
+  first_read e = e
+
+  pub second_read : {x y : ℕ} → x ≡ number_at s 4097 4 → y ≡ number_at s (4101 + x + 1) 4 → y ≡ second_of s
+  unfolding second_of
+  second_read e g = g ∙ ap (λ (k : ℕ). number_at s (4101 + k + 1) 4) (first_read e)
+
   pub first_long : 65536 < first_of s → readable s ≡ false
   unfolding readable
   first_long h = and_first _ (lt-leb _ _ h)
@@ -41,9 +50,9 @@ module _ (s : List ℕ) where
 
   -- ---- from the answer back
 
-  pub not_laid : layout_of s ≡ [] → readable s ≡ false
+  pub not_laid : told None ≡ layout_of s → readable s ≡ false
   unfolding layout_of
-  not_laid e = by (readable s) e
+  not_laid e = by (readable s) (sym e)
     where
       by : (b : Bool) → cond b (number_at s 4096 1 ∷ middle_of s ∷ number_at s (middle_of s) 1 ∷ end_of s ∷ []) [] ≡ [] → b ≡ false
       by true e = let z : ◌≡◌ {A = ℕ} 0 1 = cc in absurd (omega arith)
@@ -65,14 +74,14 @@ module _ (s : List ℕ) where
       let h = and_both (leb (first_of s) 65536) _ r in
       (h.0, and_both (leb (second_of s) 65536) _ h.1)
 
-  pub laid_out : {l : Layout} → layout_of s ≡ told (Out l) → LaidOut l
+  pub laid_out : {l : Layout} → told (Some l) ≡ layout_of s → LaidOut l
   laid_out {l} e = by (readable s) refl
     where
       by : (b : Bool) → readable s ≡ b → LaidOut l
       by true r =
-          let v = sym (layout_there r) ∙ e in
+          let v = sym (layout_there r) ∙ sym e in
           record { reads = r; lo = cc; middle = cc; hi = cc; end = cc; whole = leb-true _ _ (tests r).1.1; first_small = leb-true _ _ (tests r).0 }
-      by false r = let v = sym (layout_none r) ∙ e in let z : ◌≡◌ {A = ℕ} 0 1 = cc in absurd (omega arith)
+      by false r = let v = sym (layout_none r) ∙ sym e in let z : ◌≡◌ {A = ℕ} 0 1 = cc in absurd (omega arith)
 
   -- the parts of a readable input
   module _ (r : readable s ≡ true) where

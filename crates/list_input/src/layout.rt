@@ -15,29 +15,23 @@ pub struct Layout {
     pub high_end: usize,
 }
 
-#[derive(Clone, Copy)]
-pub enum Laid {
-    Out(Layout),
-    Unreadable,
-}
-
-pub fn layout_of(input: &[u8]) -> Laid
+pub fn layout_of(input: &[u8]) -> Option<Layout>
     ensures answer { told result ≡ layout_of input.now }
 {
     let first = u32_at(input, 4097) as usize;
     if 65536 < first {
-        return Laid::Unreadable;
+        return None;
     }
     let middle = 4101 + first;
     let second = u32_at(input, middle + 1) as usize;
     if 65536 < second {
-        return Laid::Unreadable;
+        return None;
     }
     let end = middle + 5 + second;
     if input.len() < end {
-        return Laid::Unreadable;
+        return None;
     }
-    Laid::Out(Layout {
+    Some(Layout {
         lo: u8_at(input, 4096),
         low_end: middle,
         hi: u8_at(input, middle),
@@ -49,29 +43,26 @@ pub fn layout_of(input: &[u8]) -> Laid
 pub fn config_in(input: &[u8]) -> &[u8]
     ensures part { result.now ≡ config_in input.now }
 {
-    let Laid::Out(_) = layout_of(input) else {
-        return &input[0..0];
-    };
-    &input[0..4096]
+    match layout_of(input) {
+        Some(_) => &input[0..4096],
+        None => &[],
+    }
 }
 
 pub fn low_in(input: &[u8]) -> &[u8]
     ensures part { result.now ≡ low_in input.now }
 {
-    let Laid::Out(l) = layout_of(input) else {
-        return &input[0..0];
-    };
-    let e = l.low_end;
-    &input[4101..e]
+    match layout_of(input) {
+        Some(l) => &input[4101..l.low_end],
+        None => &[],
+    }
 }
 
 pub fn high_in(input: &[u8]) -> &[u8]
     ensures part { result.now ≡ high_in input.now }
 {
-    let Laid::Out(l) = layout_of(input) else {
-        return &input[0..0];
-    };
-    let a = l.low_end + 5;
-    let e = l.high_end;
-    &input[a..e]
+    match layout_of(input) {
+        Some(l) => &input[l.low_end + 5..l.high_end],
+        None => &[],
+    }
 }

@@ -1,11 +1,15 @@
 -- What the program says, case by case. Assumes nothing.
 use Prim.Native.Nat.{ℕ, ◌*◌}
+use Rattle.std.specs.Prelude.{Option, Some, None, MatchOption}
+use Rattle.std.proofs.lemmas.Option.{MatchOption-at_some, MatchOption-at_none}
 use mathlib.Core.Path.{◌≡◌}
 use mathlib.Core.Bool.{true, false}
 use mathlib.Core.List.{List, [], ◌∷◌}
 use Rattle.words.specs.Bytes.{number_at}
 use Rattle.tpmi_banks.specs.Faults.{bank_in, empty_bank}
 use Rattle.tpmi_banks.specs.declared.faults.Bank.{Bank}
+use Rattle.capture.specs.declared.places.Capture as code
+use Rattle.capture.specs.Capture.{capture_of}
 use Rattle.capture.specs.Places.{named}
 use Rattle.tpmi_discovery.specs.Discovery.{discovery_of}
 use Rattle.tpmi_counts.specs.Valid.{valid_count_in}
@@ -29,6 +33,14 @@ module _ (s : List ℕ) where
   pub bar_there : (b : ℕ) → readable s ≡ true → named b (number_at s 4096 1) (low_in s) (number_at s (middle_of s) 1) (high_in s) ≡ bar_in s b
   unfolding bar_in
   bar_there b r = rw r
+
+  -- what is known of the capture that an input holds
+  module _ {o : Option code.Capture} (h : MatchOption o (readable s ≡ false) (λ c. (readable s ≡ true) × (capture_of c ≡ capture_in s))) where
+    pub not_held : o ≡ None → readable s ≡ false
+    not_held e = MatchOption-at_none (readable s ≡ false) (λ c. (readable s ≡ true) × (capture_of c ≡ capture_in s)) e h
+
+    pub held : {c : code.Capture} → o ≡ Some c → (readable s ≡ true) × (capture_of c ≡ capture_in s)
+    held {c} e = MatchOption-at_some (readable s ≡ false) (λ c. (readable s ≡ true) × (capture_of c ≡ capture_in s)) c e h
 
 module _ (s : List ℕ) (t k : ℕ) {b : Bank} (is : b ≡ bank_in s t k) where
   pub line_none : empty_bank b ≡ true → line_of s t k ≡ []

@@ -1,12 +1,12 @@
 -- What the program `list` says (document 01, "Bench cases"): `unreadable`, a refusal, or the table whose entries it lists.
 --   Said             the three things it can say: unreadable, a refusal, the table
---   told             what each case of the code's enum says of these
+--   told             what each case of the code's answer says of these
 --   number_said       a refusal's number, 0 where there is none: an unreadable input has none
 --   capture_in s      the capture that a readable input holds
 --   listing_of s      which of the three an input gives
 --   bar_in s b        the BAR capture with the number b, empty where the input is unreadable
 -- Assumes nothing.
-use Rattle.std.specs.Prelude.{ℕ, cond, List, []}
+use Rattle.std.specs.Prelude.{ℕ, cond, List, [], Result, Ok, Err}
 use Rattle.words.specs.Answers.{Answer, refused, gives, number_in}
 use Rattle.words.specs.Bytes.{number_at}
 use Rattle.words.specs.Facts.{Once}
@@ -15,17 +15,18 @@ use Rattle.capture.specs.Places.{named}
 use Rattle.list_input.specs.Layout.{readable, middle_of, config_in, low_in, high_in}
 use Rattle.tpmi_discovery.specs.Told.{numbers}
 use Rattle.tpmi_discovery.specs.Discovery.{discovery_of}
-use Rattle.list_lines.specs.declared.listing.Listing.{Listing}
-use Rattle.list_lines.specs.declared.listing.Listing.TheVariants.{Unreadable, Refused, Table}
+use Rattle.tpmi_discovery.specs.declared.table.Table.{Table}
+use Rattle.list_lines.specs.declared.listing.Unlisted.{Unlisted}
+use Rattle.list_lines.specs.declared.listing.Unlisted.TheVariants.{Unreadable, Refused}
 
 pub data Said : Type 0 where
   unreadable : Said
   answers : Answer → Said
 
-abbrev pub told : Listing → Said
-told Unreadable = unreadable
-told (Refused n) = answers (refused n)
-told (Table t) = answers (gives (numbers t))
+abbrev pub told : Result Table Unlisted → Said
+told (Err Unreadable) = unreadable
+told (Err (Refused r)) = answers (refused r.0)
+told (Ok t) = answers (gives (numbers t))
 
 abbrev pub number_said : Said → ℕ
 number_said unreadable = 0

@@ -2,7 +2,7 @@
 ghost use Rattle.std.specs.Prelude.{◌≡◌};
 ghost use Rattle.list_lines.specs.Line.{told, line_of};
 
-use tpmi_banks::faults::{bank_in, empty};
+use tpmi_banks::faults::{Entries, empty};
 use tpmi_counts::valid::valid_in;
 
 // A feature, as its line says it.
@@ -15,24 +15,18 @@ pub struct Feature {
     pub start: usize,
 }
 
-#[derive(Clone, Copy)]
-pub enum Line {
-    Says(Feature),
-    Nothing,
-}
-
 // The line of entry k of a table; an empty entry has none.
-pub fn line_of(bar: &[u8], table: u32, k: u8) -> Line
-    ensures answer { told result ≡ line_of bar.now table k }
+pub fn line_of(entries: Entries, k: u8) -> Option<Feature>
+    ensures answer { told result ≡ line_of entries.entry.bar.now entries.entry.table k }
 {
-    let b = bank_in(bar, table, k);
+    let b = entries.bank_in(k);
     if empty(b) {
-        return Line::Nothing;
+        return None;
     }
-    Line::Says(Feature {
+    Some(Feature {
         id: b.id,
         instances: b.instances,
-        valid: valid_in(bar, table, k),
+        valid: valid_in(entries, k),
         size: b.words as usize * 4,
         start: b.start,
     })

@@ -113,13 +113,16 @@ module _ (s : List ℕ) where
           subst (λ (x : List ℕ). length x ≤ longest) (sym (is_refused e d))
           (omega (arith, refused_short (discovery_number (capture_in s)) (omega (arith, discovery_small (capture_in s)))))
 
+  pub text_fits : length (text_of s) ≤ longest
+  text_fits = it_fits (readable s) refl
+
   -- a page that is taken: the text at its start, and the rest
   on_page : (xs : List ℕ) → list_number xs ≡ 0 → page_left xs s ≡ text_of s ++ drop (length (text_of s)) xs
   unfolding page_left
   on_page xs z =
       let room : longest ≤ length xs = ltb-false (length xs) longest (first_zero ((ltb (length xs) longest, 25) ∷ []) tt z).0 in
       ap (λ (m : ℕ). cond (eqb m 0) (over xs 0 (text_of s)) xs) z
-      ∙ over_fits xs 0 (text_of s) (omega (arith, it_fits (readable s) refl))
+      ∙ over_fits xs 0 (text_of s) (omega (arith, text_fits))
       ∙ ap (λ (m : ℕ). text_of s ++ drop m xs) (zero-add (length (text_of s)))
 
   it_shows : (xs : List ℕ) → list_number xs ≡ 0 → take (length (text_of s)) (page_left xs s) ≡ text_of s
@@ -129,4 +132,4 @@ module _ (s : List ℕ) where
   it_keeps xs z = ap (drop (length (text_of s))) (on_page xs z) ∙ drop-append_seam (text_of s) (drop (length (text_of s)) xs)
 
   pub listing_fact : ListingFact s
-  listing_fact = record { unreadable = not_read; refused_by = is_refused; accepted = is_accepted; fits = it_fits (readable s) refl; shows = it_shows; keeps = it_keeps }
+  listing_fact = record { unreadable = not_read; refused_by = is_refused; accepted = is_accepted; fits = text_fits; shows = it_shows; keeps = it_keeps }

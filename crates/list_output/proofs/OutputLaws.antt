@@ -6,7 +6,6 @@ use mathlib.Core.List.{List, [], ◌∷◌, ◌++◌}
 use borrow.Author.Tests.{lt-ltb, le-ltb}
 use lib.Dec.{eqb}
 use lib.ListN.{length, length-append}
-use native.Mathlib.Nat.{zero-add}
 use native.Mathlib.Numerals.{add-one}
 use native.Mathlib.Omega.{arith}
 use Rattle.words.specs.Answers.{refused, gives, unless}
@@ -18,9 +17,9 @@ use Rattle.tpmi_entries.specs.Entry.{entry_of, entry_at}
 use Rattle.tpmi_banks.specs.Faults.{bank_of, bank_in, empty_bank}
 use Rattle.tpmi_banks.proofs.FaultLaws.{Bounded, bank_bounded}
 use Rattle.tpmi_counts.specs.Valid.{valid_in, valid_count_in}
-use Rattle.text.specs.Page.{over, joined}
-use Rattle.text.proofs.PageLaws.{PutAll}
-use Rattle.text.proofs.LinesLaws.{all_put, few, Listed, listed_none, listed_next}
+use Rattle.text.specs.declared.page.Page.{Page}
+use Rattle.text.specs.Page.{over, Wrote}
+use Rattle.text.proofs.LinesLaws.{few, Listed, listed_none, listed_next}
 use Rattle.list_lines.specs.Listing.{Said, listing_of}
 use Rattle.list_lines.specs.Line.{line_of}
 use Rattle.list_output.specs.Output.{line_runs, line_text, lines_below, refused_text, said_text, text_of, longest, list_number, list_of, page_left}
@@ -71,27 +70,31 @@ pub lines_next : (s : List ℕ) (t k : ℕ) → lines_below s t (k + 1) ≡ line
 unfolding lines_below
 lines_next s t k = ap (lines_below s t) (add-one k)
 
--- the lines of the entries below k stand on the page xs: the page is ps now, and `at` is the place after them
-abbrev pub Shown : List ℕ → List ℕ → ℕ → ℕ → List ℕ → ℕ → Type 0
-Shown xs s t k ps at = Listed xs 62 k (lines_below s t k) ps at
+-- the lines of the entries below k were written on the page p, which is q then
+abbrev pub Shown : Page → List ℕ → ℕ → ℕ → Page → Type 0
+Shown p s t k q = Listed p 62 k (lines_below s t k) q
 
-module _ (xs s : List ℕ) (t : ℕ) where
-  pub shown_none : Shown xs s t 0 xs 0
+module _ (p : Page) (s : List ℕ) (t : ℕ) (z : p.at ≡ 0) where
+  pub shown_none : Shown p s t 0 p
   unfolding lines_below
-  shown_none = listed_none xs 62
+  shown_none = listed_none p 62 (omega arith)
 
-  pub shown_next : t < 2 ^ 32 → longest ≤ length xs → (k : ℕ) → k < 255 → {ps : List ℕ} {at : ℕ} → Shown xs s t k ps at → {r : ℕ} {rs : List ℕ}
-      → PutAll ps at r rs (line_runs (line_of s t k)) → Shown xs s t (k + 1) rs r
-  shown_next small room k more so {r} {rs} calls =
-      subst (λ (ys : List ℕ). Listed xs 62 (k + 1) ys rs r) (sym (lines_next s t k))
-      (listed_next xs 62 255 k room more so (line_runs (line_of s t k)) (line_short s t k small) calls)
-
--- a text put at the page's start
-pub text_put : (xs : List ℕ) (yss : List (List ℕ)) {r : ℕ} {rs : List ℕ} → length (joined yss) ≤ length xs
-    → PutAll xs 0 r rs yss → (r ≡ length (joined yss)) × (rs ≡ over xs 0 (joined yss))
-text_put xs yss h q = let p = all_put xs 0 yss (omega arith) q in (p.0 ∙ zero-add (length (joined yss)), p.1)
+  pub shown_next : t < 2 ^ 32 → longest ≤ length p.bytes.now → (k : ℕ) → k < 255 → {q : Page} → Shown p s t k q → {r : Page}
+      → Wrote q r (line_runs (line_of s t k)) → Shown p s t (k + 1) r
+  shown_next small room k more so {r} call =
+      subst (λ (ys : List ℕ). Listed p 62 (k + 1) ys r) (sym (lines_next s t k))
+      (listed_next p 62 255 k (omega arith) more so (line_runs (line_of s t k)) (line_short s t k small) call)
 
 -- ---- the whole listing
+
+-- what the listing says is the text
+pub said_length : (s : List ℕ) {a : Said} → a ≡ listing_of s → length (said_text s a) ≡ length (text_of s)
+unfolding text_of
+said_length s e = ap (λ (a : Said). length (said_text s a)) e
+
+pub said_wrote : (s : List ℕ) {a : Said} → a ≡ listing_of s → {p q : Page} → Wrote p q (said_text s a ∷ []) → Wrote p q (text_of s ∷ [])
+unfolding text_of
+said_wrote s e {p} {q} w = subst (λ (a : Said). Wrote p q (said_text s a ∷ [])) e w
 
 module _ (xs s : List ℕ) where
   pub list_short : length xs < longest → (refused 25 ≡ list_of xs s) × (xs ≡ page_left xs s)
@@ -100,12 +103,11 @@ module _ (xs s : List ℕ) where
       let n : list_number xs ≡ 25 = first_take 25 [] (lt-ltb (length xs) longest h) in
       (sym (ap (λ (m : ℕ). unless m (gives (length (text_of s) ∷ []))) n), sym (ap (λ (m : ℕ). cond (eqb m 0) (over xs 0 (text_of s)) xs) n))
 
-  pub list_fits : longest ≤ length xs → {a : Said} → listing_of s ≡ a → {r : ℕ} {rs : List ℕ} → (r ≡ length (said_text s a)) × (rs ≡ over xs 0 (said_text s a))
+  pub list_fits : longest ≤ length xs → {r : ℕ} {rs : List ℕ} → (r ≡ length (text_of s)) × (rs ≡ over xs 0 (text_of s))
       → (gives (r ∷ []) ≡ list_of xs s) × (rs ≡ page_left xs s)
-  unfolding list_of page_left text_of
-  list_fits h {a} e q =
-      let n : list_number xs ≡ 0 = first_skip 25 [] (le-ltb (length xs) longest h) ∙ first_end in
-      let t : said_text s a ≡ text_of s = ap (said_text s) (sym e) in (
-        ap (λ (m : ℕ). gives (m ∷ [])) (q.0 ∙ ap length t) ∙ sym (ap (λ (m : ℕ). unless m (gives (length (text_of s) ∷ []))) n),
-        q.1 ∙ ap (over xs 0) t ∙ sym (ap (λ (m : ℕ). cond (eqb m 0) (over xs 0 (text_of s)) xs) n),
+  unfolding list_of page_left
+  list_fits h q =
+      let n : list_number xs ≡ 0 = first_skip 25 [] (le-ltb (length xs) longest h) ∙ first_end in (
+        ap (λ (m : ℕ). gives (m ∷ [])) q.0 ∙ sym (ap (λ (m : ℕ). unless m (gives (length (text_of s) ∷ []))) n),
+        q.1 ∙ sym (ap (λ (m : ℕ). cond (eqb m 0) (over xs 0 (text_of s)) xs) n),
       )

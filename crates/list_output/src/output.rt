@@ -1,83 +1,85 @@
 // The whole listing of an input, on a lent page: the line `unreadable`, the line of a refusal, or a line for each entry that is not empty, in
 // table order.
-ghost use Rattle.std.specs.Prelude.{◌≡◌, ◌≤◌, length};
+ghost use Rattle.std.specs.Prelude.{◌≡◌, [], ◌∷◌, ◌≤◌, length};
 ghost use Rattle.words.specs.Told.{told};
-ghost use Rattle.text.specs.Page.{over, over_all, after_all};
-ghost use Rattle.list_lines.specs.Line.{line_of};
-ghost use Rattle.list_output.specs.Output.{line_runs, lines_below, refused_runs, longest, list_of, page_left};
-ghost use Rattle.list_lines.specs.Line.{numbers};
+ghost use Rattle.text.specs.Page.{Wrote};
+ghost use Rattle.list_lines.specs.Line.{numbers, line_of};
+ghost use Rattle.list_output.specs.Output.{line_runs, lines_below, refused_runs, text_of, longest, list_of, page_left};
 
-use list_lines::line::{Feature, Line, line_of};
-use list_lines::listing::{Listing, bar_in, listing_of};
-use text::numerals::labelled;
-use text::page::put;
-use words::answers::Value;
+use list_lines::line::{Feature, line_of};
+use list_lines::listing::{Unlisted, bar_in, listing_of};
+use text::page::Page;
+use tpmi_banks::faults::Entries;
+use words::answers::Refusal;
 
 // As long as the longest listing: 255 lines of 62 bytes.
 const LONGEST: usize = 15810;
 
-// The line of one feature, from place `at` on; the place after it.
-fn feature(page: &mut [u8], at: usize, f: Feature) -> usize
-    ensures answer { result ≡ after_all page.old at (line_runs (numbers f)) }
-    ensures kept { page.new ≡ over_all page.old at (line_runs (numbers f)) }
+// The line of one feature.
+#[tactic(auto, unfolding(crate::specs::Output::line_runs))]
+fn feature(page: &mut Page, f: Feature)
+    ensures wrote { Wrote page.old page.new (line_runs (numbers f)) }
 {
-    let a = labelled(page, at, b"feature ", f.id);
-    let b = labelled(page, a, b" instances ", f.instances);
-    let c = labelled(page, b, b" valid ", f.valid);
-    let d = labelled(page, c, b" size ", f.size as u64);
-    let e = labelled(page, d, b" at ", f.start as u64);
-    put(page, e, b"\n")
+    page.labelled(b"feature ", f.id);
+    page.labelled(b" instances ", f.instances);
+    page.labelled(b" valid ", f.valid);
+    page.labelled(b" size ", f.size as u64);
+    page.labelled(b" at ", f.start as u64);
+    page.put(b"\n");
 }
 
 // The line of entry k of a table; nothing for an empty entry.
-fn entry(page: &mut [u8], at: usize, bar: &[u8], table: u32, k: u8) -> usize
-    ensures answer { result ≡ after_all page.old at (line_runs (line_of bar.now table k)) }
-    ensures kept { page.new ≡ over_all page.old at (line_runs (line_of bar.now table k)) }
+#[tactic(auto, unfolding(crate::specs::Output::line_runs))]
+fn entry(page: &mut Page, bar: &[u8], table: u32, k: u8)
+    ensures wrote { Wrote page.old page.new (line_runs (line_of bar.now table k)) }
 {
-    let Line::Says(f) = line_of(bar, table, k) else {
-        return at;
-    };
-    feature(page, at, f)
-}
-
-// The lines of a table's entries, at the page's start; the place after them.
-fn lines(page: &mut [u8], bar: &[u8], table: u32, entries: u8) -> usize
-    requires { longest ≤ length page.old }
-    ensures answer { result ≡ length (lines_below bar.now table entries) }
-    ensures kept { page.new ≡ over page.old 0 (lines_below bar.now table entries) }
-{
-    let mut at = 0;
-    let mut k: u8 = 0;
-    while k < entries {
-        at = entry(page, at, bar, table, k);
-        k += 1;
+    if let Some(f) = line_of(Entries { bar, table }, k) {
+        feature(page, f);
     }
-    at
 }
 
-// The line of a refusal, at the page's start; the place after it.
-fn refusal(page: &mut [u8], n: u8) -> usize
-    ensures answer { result ≡ after_all page.old 0 (refused_runs n) }
-    ensures kept { page.new ≡ over_all page.old 0 (refused_runs n) }
+// The lines of a table's entries. `table` is no field of an `Entries` here: that it has 32 bits is known of a parameter alone.
+fn lines(page: &mut Page, bar: &[u8], table: u32, entries: u8)
+    requires place { page.old.at ≡ 0 }
+    requires room { longest ≤ length page.old.bytes.now }
+    ensures wrote { Wrote page.old page.new (lines_below bar.now table entries ∷ []) }
 {
-    let a = labelled(page, 0, b"refused ", n as u64);
-    put(page, a, b"\n")
+    for k in 0..entries {
+        entry(page, bar, table, k);
+    }
 }
 
-// How many bytes of the page the listing takes; 25 where the page is shorter than the longest listing.
-pub fn list(input: &[u8], page: &mut [u8]) -> Value
+// The line of a refusal.
+fn refusal(page: &mut Page, refusal: Refusal)
+    ensures wrote { Wrote page.old page.new (refused_runs refusal.0) }
+{
+    page.labelled(b"refused ", u64::from(refusal.0));
+    page.put(b"\n");
+}
+
+// What the listing of the input says.
+fn said(page: &mut Page, input: &[u8])
+    requires place { page.old.at ≡ 0 }
+    requires room { longest ≤ length page.old.bytes.now }
+    ensures wrote { Wrote page.old page.new (text_of input.now ∷ []) }
+{
+    match listing_of(input) {
+        Ok(t) => lines(page, bar_in(input, t.bir), t.start, t.entries),
+        Err(Unlisted::Unreadable) => page.put(b"unreadable\n"),
+        Err(Unlisted::Refused(r)) => refusal(page, r),
+    }
+}
+
+// How many bytes of the page the listing takes; 25 where the page is shorter than the longest listing. The page is lent as bytes and not as a
+// `Page`: the contract, and `ListingFact` of specs/Facts with it, speak of all its bytes from the first on.
+pub fn list(input: &[u8], page: &mut [u8]) -> Result<u64, Refusal>
     ensures answer { told result ≡ list_of page.old input.now }
     ensures kept { page.new ≡ page_left page.old input.now }
 {
     if page.len() < LONGEST {
-        return Value::Refused(25);
+        return Err(Refusal(25));
     }
-    let listing = listing_of(input);
-    match listing {
-        Listing::Unreadable => Value::Is(put(page, 0, b"unreadable\n") as u64),
-        Listing::Refused(n) => Value::Is(refusal(page, n) as u64),
-        Listing::Table(t) => Value::Is(
-            lines(page, bar_in(input, t.bir), t.start, t.entries) as u64,
-        ),
-    }
+    let mut listing = Page { bytes: page, at: 0 };
+    said(&mut listing, input);
+    Ok(listing.at as u64)
 }

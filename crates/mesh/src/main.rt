@@ -2,8 +2,8 @@
 // with two clusters, read and written field by field. Each question is asked of the code, and one line says what was asked and what came.
 #![tactic(auto)]
 
+mod line_ends;
 mod numbering;
-mod pieces;
 mod placement;
 mod ratios;
 mod two_clusters;

@@ -3,76 +3,69 @@
 // turnover.
 #![tactic(auto)]
 
-use energy_calls::calls::{Answered, Call, Opening, Reading, opening_of, reading_of};
+use energy_calls::calls::{Call, Reading, opening_of, reading_of};
 use energy_channel::channel::Channel;
 use energy_hall::hall;
+use energy_hall::hall::HallAfter;
 use report::endings::{refusal, value};
 use std::io;
-use text::numerals::labelled;
-use text::page::{put, shown};
-use words::answers::Value;
+use text::page::Page;
+use words::answers::Refusal;
 
-fn seen_text(page: &mut [u8], at: usize, seen: Reading) -> usize {
-    let tick = labelled(page, at, b" tick ", seen.tick);
-    let status = labelled(page, tick, b" register ", seen.status);
-    labelled(page, status, b" boot ", seen.boot as u64)
-}
-
-fn opening_text(page: &mut [u8], at: usize, n: usize, asked: Opening) -> usize {
-    let channel = labelled(page, at, b"open ", n as u64);
-    let unit = labelled(page, channel, b" unit ", asked.unit);
-    let gap = labelled(page, unit, b" gap ", asked.gap as u64);
-    let seen = asked.seen;
-    seen_text(page, gap, seen)
+fn say_seen(rt: &impl Print, seen: Reading) -> io::Result<()> {
+    print!(rt;
+        " tick {} register {} boot {}",
+        seen.tick, seen.status, seen.boot
+    )
 }
 
 // A call, at the start of its line.
-fn call_text(page: &mut [u8], n: usize, call: Call) -> usize {
+fn say_call(rt: &impl Print, n: usize, call: Call) -> io::Result<()> {
     match call {
-        Call::Open(asked) => opening_text(page, 0, n, asked),
+        Call::Open(asked) => {
+            print!(rt; "open {n} unit {} gap {}", asked.unit, asked.gap)?;
+            say_seen(rt, asked.seen)
+        }
         Call::Read(seen) => {
-            let at = labelled(page, 0, b"read ", n as u64);
-            seen_text(page, at, seen)
+            print!(rt; "read {n}")?;
+            say_seen(rt, seen)
         }
         Call::Resume(seen) => {
-            let at = labelled(page, 0, b"resume ", n as u64);
-            seen_text(page, at, seen)
+            print!(rt; "resume {n}")?;
+            say_seen(rt, seen)
         }
-        Call::Close => labelled(page, 0, b"close ", n as u64),
-        Call::Ask => labelled(page, 0, b"total ", n as u64),
+        Call::Close => print!(rt; "close {n}"),
+        Call::Ask => print!(rt; "total {n}"),
     }
 }
 
-// What came, at the end of its line.
-fn answer_text(page: &mut [u8], at: usize, answer: Answered) -> usize {
+// What came, at the end of its line. The longest has 23 bytes.
+fn say_answer(rt: &impl Print, answer: Result<Option<u64>, Refusal>) -> io::Result<()> {
+    let mut bytes = [0u8; 23];
+    let mut page = Page {
+        bytes: &mut bytes,
+        at: 0,
+    };
     match answer {
-        Answered::Accepted => put(page, at, b": accepted\n"),
-        Answered::Total(t) => value(page, at, Value::Is(t)),
-        Answered::Refused(n) => refusal(page, at, n),
+        Ok(None) => page.put(b": accepted\n"),
+        Ok(Some(t)) => value(&mut page, Ok(t)),
+        Err(r) => refusal(&mut page, r),
     }
+    rt.write_all(page.shown())
 }
 
-// Words, a number, and what came.
-fn line(rt: &impl Print, words: &[u8], n: u64, answer: Answered) -> io::Result<()> {
-    let mut page = [0u8; 128];
-    let mut at = labelled(&mut page, 0, words, n);
-    at = answer_text(&mut page, at, answer);
-    rt.write_all(shown(&page, at))
-}
-
-fn run(
-    rt: &impl Print,
-    channels: [Channel; 64],
-    n: usize,
-    call: Call,
-) -> io::Result<[Channel; 64]> {
-    let after = hall::call_on(channels, n, call);
-    let answer = after.answer;
-    let mut page = [0u8; 128];
-    let mut at = call_text(&mut page, n, call);
-    at = answer_text(&mut page, at, answer);
-    rt.write_all(shown(&page, at))?;
-    Ok(after.channels)
+// Calls, each on a channel: what each answered, and what they leave of the channels.
+fn run(rt: &impl Print, channels: &mut [Channel; 64], calls: &[(usize, Call)]) -> io::Result<()> {
+    for (n, call) in calls {
+        let HallAfter {
+            channels: left,
+            answer,
+        } = hall::call_on(*channels, *n, *call);
+        say_call(rt, *n, *call)?;
+        say_answer(rt, answer)?;
+        *channels = left;
+    }
+    Ok(())
 }
 
 fn opening(unit: u64, gap: u32, tick: u64, status: u64, boot: u32) -> Call {
@@ -87,34 +80,41 @@ fn resumption(tick: u64, status: u64, boot: u32) -> Call {
     Call::Resume(reading_of(tick, status, boot))
 }
 
-// Two turnovers, a gap and a resumption.
-fn evening(rt: &impl Print) -> io::Result<[Channel; 64]> {
-    let c0 = hall::all_closed();
-    let c1 = run(rt, c0, 3, opening(14, 1000, 5000, 4294967280, 0))?;
-    let c2 = run(rt, c1, 3, reading(6000, 16, 0))?;
-    let c3 = run(rt, c2, 3, reading(6001, 16, 0))?;
-    let c4 = run(rt, c3, 3, reading(6500, 15, 0))?;
-    let c5 = run(rt, c4, 3, reading(6500, 99, 0))?;
-    let c6 = run(rt, c5, 3, reading(7501, 99, 0))?;
-    let c7 = run(rt, c6, 3, resumption(90000, 5, 0))?;
-    run(rt, c7, 3, reading(90500, 12, 0))
-}
-
-// The machine restarts: its counter goes to 0, under boot number 1.
-fn restart(rt: &impl Print, channels: [Channel; 64]) -> io::Result<[Channel; 64]> {
-    let c1 = run(rt, channels, 3, reading(91000, 0, 1))?;
-    let c2 = run(rt, c1, 3, reading(90500, 0, 1))?;
-    let c3 = run(rt, c2, 3, resumption(91000, 0, 1))?;
-    run(rt, c3, 3, reading(91500, 250, 1))
+// Two turnovers, a gap and a resumption. Then the machine restarts: its counter goes to 0, under boot number 1.
+fn evening(rt: &impl Print, channels: &mut [Channel; 64]) -> io::Result<()> {
+    run(
+        rt,
+        channels,
+        &[
+            (3, opening(14, 1000, 5000, 4294967280, 0)),
+            (3, reading(6000, 16, 0)),
+            (3, reading(6001, 16, 0)),
+            (3, reading(6500, 15, 0)),
+            (3, reading(6500, 99, 0)),
+            (3, reading(7501, 99, 0)),
+            (3, resumption(90000, 5, 0)),
+            (3, reading(90500, 12, 0)),
+            (3, reading(91000, 0, 1)),
+            (3, reading(90500, 0, 1)),
+            (3, resumption(91000, 0, 1)),
+            (3, reading(91500, 250, 1)),
+        ],
+    )
 }
 
 // Another machine, under boot number 9; a channel that is not there, and a closed one.
-fn others(rt: &impl Print, channels: [Channel; 64]) -> io::Result<[Channel; 64]> {
-    let c1 = run(rt, channels, 5, opening(14, 3600000, 0, 7, 9))?;
-    let c2 = run(rt, c1, 5, reading(3600000, 1007, 0))?;
-    let c3 = run(rt, c2, 5, reading(3600000, 1007, 9))?;
-    let c4 = run(rt, c3, 64, reading(1, 0, 0))?;
-    run(rt, c4, 7, Call::Close)
+fn others(rt: &impl Print, channels: &mut [Channel; 64]) -> io::Result<()> {
+    run(
+        rt,
+        channels,
+        &[
+            (5, opening(14, 3600000, 0, 7, 9)),
+            (5, reading(3600000, 1007, 0)),
+            (5, reading(3600000, 1007, 9)),
+            (64, reading(1, 0, 0)),
+            (7, Call::Close),
+        ],
+    )
 }
 
 // The rises of channel 3's whole count into its accepted readings: over the first turnover, none, over the second, after the resumption,
@@ -129,34 +129,35 @@ fn wattmeter() -> u64 {
 }
 
 // Gap limit 1,000 and last tick 5,000: 6,001 and 5,000 are refused, 6,000 is not. ENERGY is bits 31:0; TIME, bits 63:32, is not counted.
-fn bench(rt: &impl Print, channels: [Channel; 64]) -> io::Result<[Channel; 64]> {
-    let c1 = run(
+fn bench(rt: &impl Print, channels: &mut [Channel; 64]) -> io::Result<()> {
+    run(
         rt,
         channels,
-        8,
-        opening(14, 1000, 5000, 0x0000_0001_FFFF_FFF0, 0),
-    )?;
-    let c2 = run(rt, c1, 8, reading(6001, 0x0000_0002_0000_0010, 0))?;
-    let c3 = run(rt, c2, 8, reading(5000, 0x0000_0002_0000_0010, 0))?;
-    let c4 = run(rt, c3, 8, reading(6000, 0x0000_0002_0000_0010, 0))?;
-    run(rt, c4, 8, Call::Ask)
-}
-
-fn hall_total(rt: &impl Print, channels: [Channel; 64], unit: u64) -> io::Result<()> {
-    line(
-        rt,
-        b"hall total of unit ",
-        unit,
-        hall::hall_total(channels, unit),
+        &[
+            (8, opening(14, 1000, 5000, 0x0000_0001_FFFF_FFF0, 0)),
+            (8, reading(6001, 0x0000_0002_0000_0010, 0)),
+            (8, reading(5000, 0x0000_0002_0000_0010, 0)),
+            (8, reading(6000, 0x0000_0002_0000_0010, 0)),
+            (8, Call::Ask),
+        ],
     )
 }
 
+fn hall_total(rt: &impl Print, channels: [Channel; 64], unit: u64) -> io::Result<()> {
+    print!(rt; "hall total of unit {unit}")?;
+    say_answer(rt, hall::hall_total(channels, unit))
+}
+
 fn main(rt: HostRuntime) -> io::Result<()> {
-    let night = others(&rt, restart(&rt, evening(&rt)?)?)?;
-    let asked = run(&rt, night, 3, Call::Ask)?;
-    line(&rt, b"wattmeter ", 3, Answered::Total(wattmeter()))?;
-    let c = run(&rt, asked, 5, Call::Ask)?;
-    hall_total(&rt, c, 14)?;
-    hall_total(&rt, bench(&rt, c)?, 14)?;
-    hall_total(&rt, c, 32)
+    let mut channels = hall::all_closed();
+    evening(&rt, &mut channels)?;
+    others(&rt, &mut channels)?;
+    run(&rt, &mut channels, &[(3, Call::Ask)])?;
+    print!(rt; "wattmeter 3")?;
+    say_answer(&rt, Ok(Some(wattmeter())))?;
+    run(&rt, &mut channels, &[(5, Call::Ask)])?;
+    hall_total(&rt, channels, 14)?;
+    bench(&rt, &mut channels)?;
+    hall_total(&rt, channels, 14)?;
+    hall_total(&rt, channels, 32)
 }

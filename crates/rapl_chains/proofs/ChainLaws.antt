@@ -76,6 +76,11 @@ module _ (s : List ℕ) (n : ℕ) where
   unfolding domain_of chain_of
   chain_refused e = unless_stops (domain_number s n) _ _ e
 
+-- what the proofs of `climb` and `chain_in` go by
+pub ruleset climb_ways = (climb_broken, climb_root, climb_last, climb_up)
+
+pub ruleset chain_ways = (chain_begins, chain_refused)
+
 -- ---- two instances of one length with the same headers
 
 module _ (s t : List ℕ) (same : SameHeaders s t) where

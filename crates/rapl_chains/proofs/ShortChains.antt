@@ -1,46 +1,34 @@
 -- No chain is longer than 255 steps: on the way to the first root no number comes twice, and there are not 257 different numbers below 256.
 -- Assumes nothing.
 use Prim.Native.Nat.{ℕ, zero, suc, ◌+◌, ◌-◌, ◌<◌, ◌≤◌}
-use mathlib.Core.Bool.{Bool, true, false, cond}
-use mathlib.Core.List.{List}
+use mathlib.Core.Bool.{Bool, true, false}
+use mathlib.Core.List.{List, map}
 use mathlib.Core.Path.{◌≡◌, refl, sym, ap, ◌∙◌, subst}
-use native.Mathlib.Nat.{not-suc-le-zero}
+use native.Mathlib.Nat.{zero-add}
 use native.Mathlib.Omega.{arith}
-use lib.Arith.{lt_of_le-ne}
 use lib.Dec.{eqb, leb}
-use borrow.Author.Tests.{eqb-true, eqb-false, leb-true, leb-false}
+use lib.ListN.{length, get_or}
+use borrow.Author.Tests.{eqb-true, ne_eqb, leb-true, leb-false}
+use Rattle.std.specs.List.{IsDistinct, All, range_with_len}
+use Rattle.std.proofs.lemmas.List.Elements.{All-contains, All-from_get_or}
+use Rattle.std.proofs.lemmas.List.FromFn.{length-map-range_with_len, get_or-map-range_with_len}
+use Rattle.std.proofs.lemmas.Map.Keys.{IsDistinct-from_apart}
+use Rattle.std.proofs.lemmas.Map.Steps.{length-le_from_distinct_below}
+use Rattle.std.proofs.lemmas.Map.Views.{Contains-from_any}
 use Rattle.rapl_chains.specs.Chains.{parent_of}
 use Rattle.rapl_chains.specs.Facts.{ancestor, Root, IsChain}
 use Rattle.rapl_domains.proofs.DomainLaws.{inside}
 
--- the number m is replaced by v
-swap : ℕ → ℕ → ℕ → ℕ
-swap m v x = cond (eqb x m) v x
-
-swap_lt : (m v x : ℕ) → v < suc m → x < suc m → (x ≡ m → v ≡ m → ⊥) → swap m v x < m
-unfolding swap
-swap_lt m v x a b d = by (eqb x m) refl
-  where
-    by : (t : Bool) → eqb x m ≡ t → cond t v x < m
-    by true e = lt_of_le-ne (omega arith) (d (eqb-true x m e))
-    by false e = lt_of_le-ne (omega arith) (eqb-false x m e)
-
-swap_same : (m v x y : ℕ) → (x ≡ y → ⊥) → (x ≡ v → ⊥) → (y ≡ v → ⊥) → swap m v x ≡ swap m v y → ⊥
-unfolding swap
-swap_same m v x y d p q = by (eqb x m) (eqb y m) refl refl
-  where
-    by : (t u : Bool) → eqb x m ≡ t → eqb y m ≡ u → cond t v x ≡ cond u v y → ⊥
-    by true true a b e = d (eqb-true x m a ∙ sym (eqb-true y m b))
-    by true false a b e = q (sym e)
-    by false true a b e = p e
-    by false false a b e = d e
-
-pub pigeons : (m : ℕ) (f : ℕ → ℕ) → ((i : ℕ) → i ≤ m → f i < m) → ((i j : ℕ) → i < j → j ≤ m → f i ≡ f j → ⊥) → ⊥
-pigeons zero f low other = not-suc-le-zero (low 0 (omega arith))
-pigeons (suc m) f low other =
-    pigeons m (λ i. swap m (f (suc m)) (f i))
-    (λ i h. swap_lt m (f (suc m)) (f i) (low (suc m) (omega arith)) (low i (omega arith)) (λ a b. other i (suc m) (omega arith) (omega arith) (a ∙ sym b)))
-    (λ i j h l. swap_same m (f (suc m)) (f i) (f j) (other i j h (omega arith)) (other i (suc m) (omega arith) (omega arith)) (other j (suc m) (omega arith) (omega arith)))
+-- the first m + 1 of f are not all below m and all different
+pigeons : (m : ℕ) (f : ℕ → ℕ) → ((i : ℕ) → i ≤ m → f i < m) → ((i j : ℕ) → i < j → j ≤ m → f i ≡ f j → ⊥) → ⊥
+pigeons m f low other =
+    let xs : List ℕ = map f (range_with_len 0 (suc m)) in
+    let long : length xs ≡ suc m = length-map-range_with_len f 0 (suc m) in
+    let is : (i d : ℕ) → i < suc m → get_or xs i d ≡ f i = λ i d h. get_or-map-range_with_len f 0 (suc m) i i d h (zero-add i) in
+    let different : IsDistinct eqb xs =
+    IsDistinct-from_apart eqb xs (λ i j d h l. ne_eqb _ _ (λ e. other i j h (omega arith) (sym (is i d (omega arith)) ∙ e ∙ is j d (omega arith)))) in
+    let low_all : All (λ x. x < m) xs = All-from_get_or (λ x. x < m) xs 0 (λ i l. rw (is i 0 (omega arith)) (low i (omega arith))) in
+    absurd (omega (arith, length-le_from_distinct_below xs m different (λ q e. All-contains (λ x. x < m) xs q low_all (Contains-from_any eqb-true q xs e))))
 
 module _ (s : List ℕ) where
   ancestor_add : (n i d : ℕ) → ancestor s n (i + d) ≡ ancestor s (ancestor s n i) d

@@ -3,34 +3,32 @@ ghost use Rattle.std.specs.Prelude.{◌≡◌, ◌≤◌};
 ghost use Rattle.words.specs.Told.{told};
 ghost use Rattle.rapl_chains.specs.Chains.{climb_from, chain_of};
 
-use rapl_domains::domains::{Known, domain_in, number_of};
-use words::answers::Value;
+use rapl_domains::domains::domain_in;
+use words::answers::Refusal;
 
 // The steps from domain n to its root, counted on from those that are gone: so many are left of 255.
-fn climb(s: &[u8], n: u64, left: u64) -> Value
+#[tactic(auto, using(crate::proofs::ChainLaws::climb_ways))]
+fn climb(s: &[u8], n: u64, left: u64) -> Result<u64, Refusal>
     requires { left ≤ 255 }
     ensures answer { told result ≡ climb_from s.now left n }
 {
-    let Known::Domain(h) = domain_in(s, n) else {
-        return Value::Refused(24);
+    let Ok(h) = domain_in(s, n) else {
+        return Err(Refusal(24));
     };
-    let parent = h.parent;
-    if parent == n {
-        return Value::Is(255 - left);
+    if h.parent == n {
+        return Ok(255 - left);
     }
     if left == 0 {
-        return Value::Refused(24);
+        return Err(Refusal(24));
     }
-    climb(s, parent, left - 1)
+    climb(s, h.parent, left - 1)
 }
 
 // The length of the chain; the domain's own refusal comes before 24.
-pub fn chain_in(s: &[u8], n: u64) -> Value
+#[tactic(auto, using(crate::proofs::ChainLaws::chain_ways))]
+pub fn chain_in(s: &[u8], n: u64) -> Result<u64, Refusal>
     ensures answer { told result ≡ chain_of s.now n }
 {
-    let known = domain_in(s, n);
-    let Known::Domain(_) = known else {
-        return Value::Refused(number_of(known));
-    };
+    domain_in(s, n)?;
     climb(s, n, 255)
 }

@@ -1,16 +1,16 @@
 -- The lookup of a domain, stage by stage, and what its answer tells. Assumes nothing.
-use Prim.Native.Nat.{ℕ, ◌+◌, ◌≤◌, ◌<◌}
+use Prim.Native.Nat.{ℕ, ◌+◌, ◌≤◌}
 use mathlib.Core.Path.{◌≡◌, sym, ap, ◌∙◌}
-use mathlib.Core.Bool.{true, false, not, cond}
+use mathlib.Core.Bool.{false, cond}
 use mathlib.Core.List.{List}
 use mathlib.Core.Logic.{◌≢◌}
 use native.Mathlib.Omega.{arith}
-use borrow.Author.Tests.{lt-ltb, le-ltb, ltb-false}
-use lib.Dec.{ltb, eqb}
+use borrow.Author.Tests.{le-ltb, ltb-false}
+use lib.Dec.{ltb}
 use lib.ListN.{length, get_or}
 use Rattle.words.specs.Answers.{refused, gives, unless}
 use Rattle.words.proofs.AnswerLaws.{unless_gives, unless_refused, first_skip, first_take, first_zero, first_upto, staged_refused, staged_gives, staged_last}
-use Rattle.words.proofs.TestLaws.{as_must, not_as_must, or_skip, or_take, or_second, or_neither}
+use Rattle.words.proofs.TestLaws.{as_must, or_skip, or_neither}
 use Rattle.rapl_domains.specs.Domains.{values, block_at, header_in, missing, unused, wrong, unsound, domain_number, domain_of}
 use Rattle.rapl_domains.specs.declared.domains.Header.{Header}
 
@@ -22,28 +22,12 @@ values_once g h e =
 -- ---- version and SIZE
 
 module _ (h : Header) where
-  pub wrong_version : h.version ≢ 1 → wrong h ≡ true
-  unfolding wrong
-  wrong_version e = or_take _ (not_as_must e)
-
-  pub wrong_size : h.size ≢ 1 → wrong h ≡ true
-  unfolding wrong
-  wrong_size e = or_second (not (eqb h.version 1)) (not_as_must e)
-
   pub none_wrong : h.version ≡ 1 → h.size ≡ 1 → wrong h ≡ false
   unfolding wrong
   none_wrong v e = or_skip _ (as_must v) ∙ as_must e
 
 module _ (s : List ℕ) (n : ℕ) where
   -- ---- the block
-
-  pub missing_number : 255 < n → missing s n ≡ true
-  unfolding missing
-  missing_number h = or_take _ (lt-ltb _ _ h)
-
-  pub missing_bytes : length s < block_at n + 128 → missing s n ≡ true
-  unfolding missing
-  missing_bytes h = or_second (ltb 255 n) (lt-ltb _ _ h)
 
   pub block_there : n ≤ 255 → block_at n + 128 ≤ length s → missing s n ≡ false
   unfolding missing
@@ -104,3 +88,6 @@ module _ (s : List ℕ) (n : ℕ) where
   pub inside : domain_number s n ≡ 0 → (n ≤ 255) × (block_at n + 128 ≤ length s)
   unfolding domain_number
   inside e = there (first_zero _ tt e).0
+
+-- what the proof of `domain_in` goes by
+pub ruleset domain_ways = (block_stops, used_stops, sound_last)

@@ -1,10 +1,11 @@
 // A domain's header as a value, and the lookup of a domain in the bytes of an instance: 12, 15, 16.
 ghost use Rattle.std.specs.Prelude.{◌≡◌, cond};
-ghost use Rattle.words.specs.Answers.{refused, gives, number_in};
+ghost use Rattle.words.specs.Answers.{refused, gives};
 ghost use Rattle.rapl_domains.specs.Domains.{header_of, header_in, values, missing, unused, wrong, domain_of};
 ghost use Rattle.rapl_domains.specs.Told.{told};
 
 use fields::bits::field;
+use words::answers::Refusal;
 use words::bytes::u64_at;
 
 // Register 0 of a domain; a reserved field is named by its lowest bit.
@@ -21,89 +22,77 @@ pub struct Header {
     pub reserved48: u64,
 }
 
-// The answer of each stage of the lookup.
-#[derive(Clone, Copy)]
-pub enum Known {
-    Domain(Header),
-    Refused(u8),
-}
-
 // The header that a register's content says.
-pub fn read(register: u64) -> Header
-    ensures answer { result ≡ header_of register }
-{
-    Header {
-        version: field(register, 0, 8),
-        kind: field(register, 8, 8),
-        size: field(register, 16, 8),
-        parent: field(register, 24, 8),
-        flags: field(register, 32, 16),
-        reserved48: field(register, 48, 16),
-    }
-}
+impl From<u64> for Header {
+    ghost from_gives = { λ register h. h ≡ header_of register };
 
-// The refusal's number, 0 where the domain is known.
-pub fn number_of(known: Known) -> u8
-    ensures answer { result ≡ number_in (told known) }
-{
-    match known {
-        Known::Domain(_) => 0,
-        Known::Refused(n) => n,
+    #[tactic(auto, unfolding(crate::specs::Domains::header_of))]
+    fn from(register: u64) -> Header {
+        Header {
+            version: field(register, 0, 8),
+            kind: field(register, 8, 8),
+            size: field(register, 16, 8),
+            parent: field(register, 24, 8),
+            flags: field(register, 32, 16),
+            reserved48: field(register, 48, 16),
+        }
     }
 }
 
 // 12 where block n does not lie wholly inside the instance.
-fn block(s: &[u8], n: u64) -> Known
+#[tactic(auto, unfolding(crate::specs::Domains::missing, crate::specs::Domains::header_in))]
+fn block(s: &[u8], n: u64) -> Result<Header, Refusal>
     ensures answer { told result ≡ cond (missing s.now n) (refused 12) (gives (values (header_in s.now n))) }
 {
     if 255 < n {
-        return Known::Refused(12);
+        return Err(Refusal(12));
     }
     let at = n as usize * 128;
     if s.len() < at + 128 {
-        return Known::Refused(12);
+        return Err(Refusal(12));
     }
-    Known::Domain(read(u64_at(s, at)))
+    Ok(Header::from(u64_at(s, at)))
 }
 
 // 15 where the type is 0.
-fn used(h: Header) -> Known
+#[tactic(auto, unfolding(crate::specs::Domains::unused))]
+fn used(h: Header) -> Result<Header, Refusal>
     ensures answer { told result ≡ cond (unused h) (refused 15) (gives (values h)) }
 {
     if h.kind == 0 {
-        return Known::Refused(15);
+        return Err(Refusal(15));
     }
-    Known::Domain(h)
+    Ok(h)
 }
 
 // 16 where version or SIZE is not 1.
-fn sound(h: Header) -> Known
+#[tactic(auto, unfolding(crate::specs::Domains::wrong))]
+fn sound(h: Header) -> Result<Header, Refusal>
     ensures answer { told result ≡ cond (wrong h) (refused 16) (gives (values h)) }
 {
-    if h.version != 1 {
-        return Known::Refused(16);
+    if h.version != 1 || h.size != 1 {
+        return Err(Refusal(16));
     }
-    if h.size != 1 {
-        return Known::Refused(16);
-    }
-    Known::Domain(h)
+    Ok(h)
 }
 
-// Domain n of an instance.
-pub fn domain_in(s: &[u8], n: u64) -> Known
+// Domain n of an instance. Each stage's answer is taken apart by `let .. else` and its refusal returned at once, and not by `?`: a form that
+// document 01 prescribes for this lookup.
+#[tactic(auto, using(crate::proofs::DomainLaws::domain_ways))]
+pub fn domain_in(s: &[u8], n: u64) -> Result<Header, Refusal>
     ensures answer { told result ≡ domain_of s.now n }
 {
     let inside = block(s, n);
-    let Known::Domain(h) = inside else {
+    let Ok(h) = inside else {
         return inside;
     };
     let typed = used(h);
-    let Known::Domain(t) = typed else {
+    let Ok(t) = typed else {
         return typed;
     };
     let kept = sound(t);
-    let Known::Domain(d) = kept else {
+    let Ok(d) = kept else {
         return kept;
     };
-    Known::Domain(d)
+    Ok(d)
 }

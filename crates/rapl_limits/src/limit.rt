@@ -6,7 +6,7 @@ ghost use Rattle.rapl_limits.specs.Limit.{limit_of, written_of};
 
 use fields::bits::field;
 use fields::tables::word_of;
-use words::answers::Value;
+use words::answers::Refusal;
 
 // A reserved field is named by its lowest bit.
 #[derive(Clone, Copy)]
@@ -21,24 +21,31 @@ pub struct Limit {
 }
 
 // The limit that a register's content says.
-pub fn read(register: u64) -> Limit
-    ensures answer { result ≡ limit_of register }
-{
-    Limit {
-        power: field(register, 0, 18),
-        window: field(register, 18, 7),
-        reserved25: field(register, 25, 37),
-        enable: field(register, 62, 1),
-        lock: field(register, 63, 1),
+impl From<u64> for Limit {
+    ghost from_gives = { λ register l. l ≡ limit_of register };
+
+    #[tactic(auto, unfolding(crate::specs::Limit::limit_of))]
+    fn from(register: u64) -> Limit {
+        Limit {
+            power: field(register, 0, 18),
+            window: field(register, 18, 7),
+            reserved25: field(register, 25, 37),
+            enable: field(register, 62, 1),
+            lock: field(register, 63, 1),
+        }
     }
 }
 
-// The register's content that says this limit.
-pub fn write(l: Limit) -> Value
-    ensures answer { told result ≡ written_of l }
-{
-    word_of(
-        &[18, 7, 37, 1, 1],
-        &[l.power, l.window, l.reserved25, l.enable, l.lock],
-    )
+// The register's content that says a limit; 17 where a number does not fit its field.
+impl TryFrom<Limit> for u64 {
+    type Error = Refusal;
+
+    ghost try_from_gives = { λ l r. told r ≡ written_of l };
+
+    fn try_from(l: Limit) -> Result<u64, Refusal> {
+        word_of(
+            &[18, 7, 37, 1, 1],
+            &[l.power, l.window, l.reserved25, l.enable, l.lock],
+        )
+    }
 }

@@ -99,3 +99,8 @@ module _ (h : Header) (limit which value x : ℕ) where
         narrow = leb-false _ _ f.1.1.0;
         unlocked = eqb-false _ _ f.1.1.1.0;
       }
+
+-- what the proofs of `span_of` and `refusal` go by
+pub ruleset span_ways = (span_past)
+
+pub ruleset refusal_ways = (limit_small, refusal_other, refusal_absent, refusal_unwritable, refusal_wide, refusal_locked, refusal_none)

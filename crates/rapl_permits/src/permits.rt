@@ -1,12 +1,14 @@
 // The four fields of a limit by their numbers: 0 PWR_LIM, 1 TIME_WINDOW, 2 PWR_LIM_EN, 3 LOCK; and what refuses a write of one.
 ghost use Rattle.std.specs.Prelude.{◌≡◌};
+ghost use Rattle.words.specs.Told.{done, passes};
 ghost use Rattle.rapl_permits.specs.Permits.{span_of, a_limit, unwritable, refusal_of};
 
 use fields::bits::field;
 use rapl_domains::domains::Header;
 use rapl_registers::contents::present;
+use words::answers::Refusal;
 
-// The fields by name.
+// The fields by name, and no enum of four: a call takes any number, and refuses the others with 27.
 pub const PWR_LIM: u64 = 0;
 
 pub const TIME_WINDOW: u64 = 1;
@@ -24,87 +26,59 @@ pub struct Span {
 }
 
 // The span of a field; a field that is none of the four has no bits.
+#[tactic(auto, using(crate::proofs::PermitLaws::span_ways), unfolding(crate::specs::Permits::lowest_of, crate::specs::Permits::width_of))]
 pub fn span_of(which: u64) -> Span
     ensures answer { result ≡ span_of which }
 {
-    match which {
-        PWR_LIM => Span {
-            at: 0,
-            width: 18,
-            room: 0x40000,
-        },
-        TIME_WINDOW => Span {
-            at: 18,
-            width: 7,
-            room: 128,
-        },
-        PWR_LIM_EN => Span {
-            at: 62,
-            width: 1,
-            room: 2,
-        },
-        LOCK => Span {
-            at: 63,
-            width: 1,
-            room: 2,
-        },
-        _ => Span {
-            at: 0,
-            width: 0,
-            room: 1,
-        },
+    let (at, width) = match which {
+        PWR_LIM => (0, 18),
+        TIME_WINDOW => (18, 7),
+        PWR_LIM_EN => (62, 1),
+        LOCK => (63, 1),
+        _ => (0, 0),
+    };
+    Span {
+        at,
+        width,
+        room: 1 << width,
     }
 }
 
 // There are two limits, 1 and 2.
+#[tactic(auto, unfolding(crate::specs::Permits::a_limit))]
 fn a_limit(limit: u64) -> bool
     ensures answer { result ≡ a_limit limit }
 {
-    if limit == 1 {
-        return true;
-    }
-    limit == 2
+    limit == 1 || limit == 2
 }
 
 // A field that is none of the four, or TIME_WINDOW of limit 2 in a package domain.
+#[tactic(auto, unfolding(crate::specs::Permits::unwritable))]
 fn unwritable(kind: u64, limit: u64, which: u64) -> bool
     ensures answer { result ≡ unwritable kind limit which }
 {
-    if LOCK < which {
-        return true;
-    }
-    if which != TIME_WINDOW {
-        return false;
-    }
-    if limit != 2 {
-        return false;
-    }
-    kind == 2
+    LOCK < which || (which == TIME_WINDOW && limit == 2 && kind == 2)
 }
 
-// 26, 27, 17, 18 of a write, where the limit's register holds x; 0 where it is permitted.
-pub fn refusal(h: Header, limit: u64, which: u64, value: u64, x: u64) -> u8
-    ensures answer { result ≡ refusal_of h limit which value x }
+// 26, 27, 17, 18 of a write, where the limit's register holds x; nothing where it is permitted.
+#[tactic(auto, using(crate::proofs::PermitLaws::refusal_ways))]
+pub fn refusal(h: Header, limit: u64, which: u64, value: u64, x: u64) -> Result<(), Refusal>
+    ensures answer { done result ≡ passes (refusal_of h limit which value x) }
 {
-    let known = a_limit(limit);
-    if !known {
-        return 27;
+    if !a_limit(limit) {
+        return Err(Refusal(27));
     }
-    let there = present(h.flags, limit + 1);
-    if !there {
-        return 26;
+    if !present(h.flags, limit + 1) {
+        return Err(Refusal(26));
     }
-    let closed = unwritable(h.kind, limit, which);
-    if closed {
-        return 27;
+    if unwritable(h.kind, limit, which) {
+        return Err(Refusal(27));
     }
-    let room = span_of(which).room;
-    if room <= value {
-        return 17;
+    if span_of(which).room <= value {
+        return Err(Refusal(17));
     }
-    let locked = field(x, 63, 1);
-    if locked == 1 {
-        return 18;
+    if field(x, 63, 1) == 1 {
+        return Err(Refusal(18));
     }
-    0
+    Ok(())
 }

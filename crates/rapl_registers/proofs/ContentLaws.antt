@@ -1,17 +1,15 @@
 -- The registers of a domain: which are present, and the ways of a register's read. Assumes nothing.
 use Prim.Native.Nat.{ℕ, ◌+◌, ◌≤◌, ◌<◌}
 use mathlib.Core.Path.{◌≡◌, ap, ap₂, ◌∙◌}
-use mathlib.Core.Bool.{Bool, true, false, not, ◌&&◌}
+use mathlib.Core.Bool.{true, false, not}
 use mathlib.Core.List.{List, [], ◌∷◌}
-use mathlib.Core.Logic.{◌≢◌}
 use native.Mathlib.Omega.{arith}
-use borrow.Author.Tests.{lt-ltb, le-ltb, ltb-false, lt-leb, le-leb, eq-eqb, ne_eqb}
-use lib.Dec.{leb, eqb}
+use borrow.Author.Tests.{lt-ltb, le-ltb, ltb-false, eq-eqb}
+use lib.Dec.{eqb}
 use lib.ListN.{length}
 use Rattle.words.specs.Answers.{refused, gives, unless, earliest}
-use Rattle.fields.specs.Bits.{field}
 use Rattle.words.proofs.AnswerLaws.{unless_where, first_skip, first_take, first_end, first_zero, earliest_zero, stage_stops, stage_passes, stage_last}
-use Rattle.words.proofs.TestLaws.{or_skip, or_take, or_second, and_first}
+use Rattle.words.proofs.TestLaws.{or_take, or_second}
 use Rattle.rapl_domains.specs.Domains.{header_in, values, domain_number, domain_of}
 use Rattle.rapl_registers.specs.Contents.{present, register_place, register_at, absent, content_number, content_of}
 use Rattle.rapl_domains.specs.declared.domains.Header.{Header}
@@ -33,17 +31,6 @@ module _ (flags r : ℕ) where
   pub present_9 : r ≡ 9 → present flags r ≡ true
   unfolding present
   present_9 e = or_second (eqb r 0) (or_second (eqb r 1) (or_take _ (eq-eqb _ _ e)))
-
-  module _ (a : r ≢ 0) (b : r ≢ 1) (c : r ≢ 9) where
-    by_flags : present flags r ≡ (leb r 15 && eqb (field r 1 flags) 1)
-    unfolding present
-    by_flags = or_skip _ (ne_eqb _ _ a) ∙ or_skip _ (ne_eqb _ _ b) ∙ or_skip _ (ne_eqb _ _ c)
-
-    pub present_past : 15 < r → present flags r ≡ false
-    present_past h = by_flags ∙ and_first _ (lt-leb _ _ h)
-
-    pub present_bit : r ≤ 15 → present flags r ≡ eqb (field r 1 flags) 1
-    present_bit h = by_flags ∙ ap (λ (t : Bool). t && eqb (field r 1 flags) 1) (le-leb _ _ h)
 
   -- ---- 17, then 26
 
@@ -71,12 +58,29 @@ module _ (s : List ℕ) (n r : ℕ) where
   unfolding content_of content_number
   content_by z e = stage_passes _ _ z (stage_last _ _) ∙ ap (λ (k : ℕ). unless k (gives (register_at s n r ∷ []))) e
 
-  pub content_of_law : {h : Header} {m : ℕ} → domain_of s n ≡ gives (values h) → absent h.flags r ≡ m → content_of s n r ≡ unless m (gives (register_at s n r ∷ []))
-  content_of_law {h} d e = let k = known s n d in content_by k.0 (ap (λ (g : Header). absent g.flags r) k.1 ∙ e)
+  -- the ways of the code, once the domain is known
+  module _ {h : Header} (d : domain_of s n ≡ gives (values h)) where
+    content_known : {m : ℕ} → absent h.flags r ≡ m → content_of s n r ≡ unless m (gives (register_at s n r ∷ []))
+    content_known e = let k = known s n d in content_by k.0 (ap (λ (g : Header). absent g.flags r) k.1 ∙ e)
+
+    pub content_17 : 15 < r → content_of s n r ≡ refused 17
+    content_17 l = content_known (absent_17 h.flags r l)
+
+    pub content_26 : r ≤ 15 → present h.flags r ≡ false → content_of s n r ≡ refused 26
+    content_26 l e = content_known (absent_26 h.flags r l e)
+
+    pub content_given : r ≤ 15 → present h.flags r ≡ true → content_of s n r ≡ gives (register_at s n r ∷ [])
+    content_given l e = content_known (absent_none h.flags r l e)
+
+    pub domain_low : n ≤ 255
+    domain_low = (inside s n (known s n d).0).0
 
   -- a register of a sound domain lies inside the instance
   pub register_inside : domain_number s n ≡ 0 → r ≤ 15 → register_place n r + 8 ≤ length s
   register_inside z h = omega (arith, (inside s n z).1)
+
+-- what the proof of `register_in` goes by
+pub ruleset content_ways = (content_refused, content_17, content_26, content_given, domain_low)
 
 -- ---- two instances of one length with the same headers
 

@@ -1,12 +1,12 @@
 -- Codes and their order; the search for the first one long enough: its turns, its two ends, and the answers. Assumes nothing.
-use Prim.Native.Nat.{ℕ, ◌+◌, ◌-◌, ◌*◌, ◌^◌, ◌<◌, ◌≤◌}
+use Prim.Native.Nat.{ℕ, ◌+◌, ◌-◌, ◌*◌, ◌%◌, ◌^◌, ◌<◌, ◌≤◌}
 use mathlib.Core.Path.{◌≡◌, refl, sym, ap, ap₂, ◌∙◌}
 use mathlib.Core.List.{[], ◌∷◌}
 use native.Mathlib.Nat.{mul-le-mul}
 use native.Mathlib.Omega.{arith}
 use borrow.Author.Tests.{lt-ltb, le-ltb, le-leb, lt-leb, eq-eqb, ne_eqb}
 use lib.Dec.{leb}
-use lib.Pow.{pow_mono}
+use lib.Pow.{pow_mono, shl_exact}
 use Rattle.words.specs.Answers.{refused, gives, unless}
 use Rattle.words.specs.Below.{least}
 use Rattle.fields.specs.Bits.{field}
@@ -35,6 +35,19 @@ quarters_most code =
     let y : field 0 5 code ≤ 31 = omega (arith, y_lt code) in
     mul-le-mul x (pow_mono y)
 
+-- what is read as a field of two or of five bits, wherever it stands, is below 4 or 32; so 4 + X moved up by Y loses no bit
+pub x_small : (p code : ℕ) {x : ℕ} → x ≡ field p 2 code → x < 4
+x_small p code e = rw e (field_lt p 2 code)
+
+pub y_small : (p code : ℕ) {y : ℕ} → y ≡ field p 5 code → y < 32
+y_small p code e = rw e (field_lt p 5 code)
+
+pub shifted : (x y : ℕ) → x < 4 → y < 32 → (4 + x) * 2 ^ y % 2 ^ 64 ≡ (4 + x) * 2 ^ y
+shifted x y h l = shl_exact 3 y 64 (omega arith) (omega arith)
+
+-- what the proof of `quarters` goes by
+pub ruleset quarters_ways = (x_small, y_small, shifted)
+
 module _ (y x : ℕ) (h : y < 32) (l : x < 4) where
   pub y_of : field 0 5 (code_of y x) ≡ y
   unfolding field
@@ -62,13 +75,6 @@ module _ (ms unit : ℕ) where
   pub begin : Onward (0 * 4)
   unfolding first_long
   begin = refl
-
-  -- from the last X of a row to the next row, and from a row to its first X
-  pub next_row : (y x : ℕ) → x ≡ 4 → Onward (y * 4 + x) → Onward ((y + 1) * 4)
-  next_row y x e i = let q : (y + 1) * 4 ≡ y * 4 + x = omega arith in rw q i
-
-  pub begin_row : (y : ℕ) → Onward (y * 4) → Onward (y * 4 + 0)
-  begin_row y i = let q : y * 4 + 0 ≡ y * 4 = omega arith in rw q i
 
   pub over : (y : ℕ) → y ≡ 32 → Onward (y * 4) → first_long ms unit ≡ 128
   over y e i = sym i ∙ ap (λ (k : ℕ). least (long_enough ms unit) (128 - k * 4) (k * 4)) e ∙ least_none (long_enough ms unit) 128
@@ -112,3 +118,18 @@ module _ (ms unit : ℕ) where
 
   pub answer_code : (y x : ℕ) → unit ≤ 15 → y < 32 → x < 4 → first_long ms unit ≡ y * 4 + x → window_of ms unit ≡ gives (code_of y x ∷ [])
   answer_code y x h k l e = by_number 0 (number_0 h (omega arith)) ∙ ap (λ (c : ℕ). gives (c ∷ [])) (ap code_at e ∙ code_at_law y x l)
+
+  -- the code's way out, from the code at 4 Y + X
+  pub answer_found : (y x : ℕ) → unit ≤ 15 → y < 32 → x < 4 → Onward (y * 4 + x) → asked ms unit ≤ quarters_of (code_of y x) * 1000
+      → window_of ms unit ≡ gives (code_of y x ∷ [])
+  answer_found y x h k l i g = answer_code y x h k l (found y x k l i g)
+
+  pub answer_none : (y : ℕ) → unit ≤ 15 → y ≡ 32 → Onward (y * 4) → window_of ms unit ≡ refused 19
+  answer_none y h e i = answer_19 h (over y e i)
+
+-- a duration that was computed is small, whatever its code
+pub quarters_small : (code : ℕ) {q : ℕ} → q ≡ quarters_of code → q ≤ 7 * 2 ^ 31
+quarters_small code e = rw e (quarters_most code)
+
+-- what the proof of `window_code` goes by
+pub ruleset code_ways = (begin, quarters_small, too_short, answer_17, answer_found, answer_none)

@@ -4,15 +4,10 @@ ghost use Rattle.rapl_windows.specs.Windows.{quarters_of, asked, window_of};
 ghost use Rattle.words.specs.Told.{told};
 
 use fields::bits::field;
-use words::answers::Value;
-
-fn wide(ms: u32) -> u64
-    ensures answer { result ≡ ms }
-{
-    ms as u64
-}
+use words::answers::Refusal;
 
 // How long a code lasts, in quarters of a time unit. Bits above the seven of a code are not looked at.
+#[tactic(auto, using(crate::proofs::CodeLaws::quarters_ways), unfolding(crate::specs::Windows::quarters_of))]
 pub fn quarters(code: u64) -> u64
     ensures answer { result ≡ quarters_of code }
 {
@@ -26,24 +21,26 @@ fn wanted(ms: u32, unit: u64) -> u64
     requires { unit ≤ 15 }
     ensures answer { result ≡ asked ms unit }
 {
-    (wide(ms) * 4) << unit
+    (u64::from(ms) * 4) << unit
 }
 
-// The first code, Y rising and X rising inside it, that lasts at least `ms` milliseconds.
-pub fn window_code(ms: u32, unit: u64) -> Value
+// The first code, Y rising and X rising inside it, that lasts at least `ms` milliseconds. Two nested loops left by a label: a form that
+// document 01 prescribes for this search.
+#[tactic(auto, using(crate::proofs::CodeLaws::code_ways))]
+pub fn window_code(ms: u32, unit: u64) -> Result<u64, Refusal>
     ensures answer { told result ≡ window_of ms unit }
 {
     if 15 < unit {
-        return Value::Refused(17);
+        return Err(Refusal(17));
     }
     let least = wanted(ms, unit);
     // Stands until a code is found.
-    let mut answer = Value::Refused(19);
+    let mut answer = Err(Refusal(19));
     'search: for y in 0..32 {
         for x in 0..4 {
             let code = x * 32 + y;
             if least <= quarters(code) * 1000 {
-                answer = Value::Is(code);
+                answer = Ok(code);
                 break 'search;
             }
         }

@@ -5,7 +5,8 @@ use mathlib.Core.List.{List, [], ◌∷◌}
 use mathlib.Core.Logic.{◌≢◌}
 use borrow.Author.Tests.{eq-eqb, ne_eqb}
 use Rattle.words.specs.Answers.{refused, gives, number_in}
-use Rattle.words.proofs.AnswerLaws.{unless_passes}
+use Rattle.words.specs.Told as told
+use Rattle.words.proofs.AnswerLaws.{unless_number, unless_passes}
 use Rattle.capture.specs.Capture.{Capture}
 use Rattle.capture.specs.Told.{numbers}
 use Rattle.capture.specs.declared.places.Place.{Place}
@@ -34,12 +35,12 @@ module _ (c : Capture) (i n limit which value : ℕ) where
   -- ---- a refused write
 
   pub refused_write : {m : ℕ} → next_for c i n limit which value ≡ refused m → m ≢ 0
-      → (m ≡ write_number c i n limit which value) × ((c.low ≡ (left c i n limit which value).low) × (c.high ≡ (left c i n limit which value).high))
+      → (refused m ≡ told.passes (write_number c i n limit which value)) × ((c.low ≡ (left c i n limit which value).low) × (c.high ≡ (left c i n limit which value).high))
   unfolding write_number
   refused_write e h =
       let q = ap number_in e in
       let k = sym (left_kept (λ z. h (sym q ∙ z))) in
-      (sym q, (ap (λ (d : Capture). d.low) k, ap (λ (d : Capture). d.high) k))
+      (sym (unless_number _ (gives []) h) ∙ ap told.passes (sym q), (ap (λ (d : Capture). d.low) k, ap (λ (d : Capture). d.high) k))
 
   -- ---- a permitted one: the instance stands at p, and x is the register's next content
 
@@ -55,8 +56,8 @@ module _ (c : Capture) (i n limit which value : ℕ) where
     small = let g = permitted (instance_part c 0 i) n limit which value passes in ((inside _ n g.0).0, limit_small limit g.1.a_limit_law)
 
     pub permitted_write : {ls hs : List ℕ} → ls ≡ low_with p (register_place n (limit + 1)) x c.lo c.low → hs ≡ high_with p (register_place n (limit + 1)) x c.lo c.hi c.high
-        → (0 ≡ write_number c i n limit which value) × ((ls ≡ (left c i n limit which value).low) × (hs ≡ (left c i n limit which value).high))
+        → (gives [] ≡ told.passes (write_number c i n limit which value)) × ((ls ≡ (left c i n limit which value).low) × (hs ≡ (left c i n limit which value).high))
     permitted_write l h =
         let s = placed_store c 0 i (register_place n (limit + 1)) x p found (in_size c 0 i (instance_at c 0 i found).zero (next_inside (instance_part c 0 i) n limit which value passes)) in
         let k = ap (after_store c 0 i (register_place n (limit + 1))) (sym (given_by (instance_part c 0 i) n limit which value e).1) ∙ sym (left_stored accepted) in
-        (sym accepted, (l ∙ s.0 ∙ ap (λ (d : Capture). d.low) k, h ∙ s.1 ∙ ap (λ (d : Capture). d.high) k))
+        (ap told.passes (sym accepted), (l ∙ s.0 ∙ ap (λ (d : Capture). d.low) k, h ∙ s.1 ∙ ap (λ (d : Capture). d.high) k))

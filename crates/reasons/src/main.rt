@@ -7,219 +7,148 @@
 // joined. An input of more than 65,536 bytes is too long, and nothing of it is played.
 #![tactic(auto)]
 
-ghost use Rattle.std.specs.Prelude.{◌≤◌, length};
+ghost use Rattle.std.specs.Prelude.{◌≤◌, length, IfOk};
 
 use reasons_fold::fold::{fold, joined};
 use reasons_lines::reason_lines::{exchange_line, reasons_line, test_line};
-use reasons_mailbox::mailbox::{Begun, Mailbox, Reply, Stepped, start, step};
-use reasons_registers::mailbox_data;
+use reasons_mailbox::mailbox::{Mailbox, Reply, start, step};
+use reasons_registers::mailbox_data::MailboxData;
 use std::io;
 use std::io::Read;
-use text::page::shown;
+use text::page::Page;
 use words::bytes::u64_at;
 
 const LONGEST: usize = 65536;
 
-// A start has 40 bytes and a test 16, so that no input has more of them.
-const STARTS: u64 = 1638;
-
+// A test has 16 bytes: no input has more of them.
 const TESTS: u64 = 4096;
 
-// A read that ended takes a start and two tests, 72 bytes: no input has more.
-const READS: usize = 910;
-
-// How an exchange's tests went: the bytes that they took, the state that they left, and the last reply.
+// How an exchange's tests went: the numbers behind them, the state that they left, and the last reply.
 #[derive(Clone, Copy)]
-struct Exchanged {
-    used: usize,
+struct Exchanged<'a> {
+    rest: &'a [u64],
     state: Mailbox,
     reply: Reply,
 }
 
-// How the input went: the bytes that were played, that no exchange was left open, and the reads that ended.
+// How the input went: how many numbers were not played, and that no exchange was left open.
 #[derive(Clone, Copy)]
 struct Course {
-    used: usize,
+    left: usize,
     over: bool,
-    reads: usize,
 }
 
-fn say(rt: &impl Print, words: &[u8]) -> io::Result<()> {
-    rt.write_all(words)
+// A line, on a page that has room for the longest: 145 bytes (`ExchangeLineFact` of reasons_lines).
+fn say<F: FnOnce(&mut Page)>(rt: &impl Print, line: F) -> io::Result<()>
+    requires { F.IsAlwaysCallable line }
+{
+    let mut bytes = [0u8; 145];
+    let mut page = Page {
+        bytes: &mut bytes,
+        at: 0,
+    };
+    line(&mut page);
+    rt.write_all(page.shown())
 }
 
-// Each page has room for the longest line of its kind: 88 bytes with a label of at most 16 (`ReasonsLineFact` of reasons_lines), 145
-// (`ExchangeLineFact`) and 140 (`TestLineFact`).
 fn say_reasons(rt: &impl Print, label: &[u8], coarse: u64) -> io::Result<()> {
-    let mut page = [0u8; 88];
-    let many = reasons_line(&mut page, 0, label, coarse);
-    say(rt, shown(&page, many))
+    say(rt, |page| reasons_line(page, label, coarse))
 }
 
-fn number_of(begun: Begun) -> u8 {
-    match begun {
-        Begun::At(_) => 0,
-        Begun::Refused(n) => n,
-    }
-}
-
-// An exchange that is refused is over.
-fn state_of(begun: Begun) -> Mailbox {
-    match begun {
-        Begun::At(m) => m,
-        Begun::Refused(_) => Mailbox::Over,
-    }
-}
-
-// The exchange that five numbers ask for.
-fn started(rt: &impl Print, head: &[u8]) -> io::Result<Mailbox> {
-    let command = u64_at(head, 0);
-    let domain = u64_at(head, 8);
-    let id = u64_at(head, 16);
-    let reasons = u64_at(head, 24);
-    let tests = u64_at(head, 32);
-    let begun = start(command, domain, id, reasons, tests);
-    let number = number_of(begun);
-    let mut page = [0u8; 145];
-    let many = exchange_line(&mut page, 0, command, domain, id, reasons, tests, number);
-    say(rt, shown(&page, many))?;
-    Ok(state_of(begun))
-}
-
-// Test n of an exchange, on the two values that were read. `written` is how the lines went: after one that could not be written there is none.
-fn tested(
+// The exchange that five numbers ask for; one that is refused is over.
+fn started(
     rt: &impl Print,
-    values: &[u8],
-    n: u64,
-    m: Mailbox,
-    written: &mut io::Result<()>,
-) -> Stepped {
-    let interface = u64_at(values, 0);
-    let reasons = u64_at(values, 8);
-    let s = step(m, interface, reasons);
-    let reply = s.reply;
-    let mut page = [0u8; 140];
-    let many = test_line(&mut page, 0, n, interface, reasons, reply);
-    if written.is_ok() {
-        *written = say(rt, shown(&page, many));
-    }
-    s
+    command: u64,
+    domain: u64,
+    id: u64,
+    reasons: u64,
+    tests: u64,
+) -> io::Result<Mailbox> {
+    let begun = start(command, domain, id, reasons, tests);
+    let came = begun.map(|_| ());
+    say(rt, |page| {
+        exchange_line(page, command, domain, id, reasons, tests, came)
+    })?;
+    Ok(begun.unwrap_or(Mailbox::Over))
 }
 
 fn is_over(m: Mailbox) -> bool {
-    match m {
-        Mailbox::Starting(_) => false,
-        Mailbox::Ending(_) => false,
-        Mailbox::Over => true,
-    }
+    matches!(m, Mailbox::Over)
 }
 
 // The tests of an exchange, until it is over or no whole test is left.
-fn all_tested(rt: &impl Print, rest: &[u8], m: Mailbox, written: &mut io::Result<()>) -> Exchanged
-    ensures within { result.used ≤ length rest.now }
+fn all_tested<'a>(rt: &impl Print, numbers: &'a [u64], m: Mailbox) -> io::Result<Exchanged<'a>>
+    ensures within { IfOk result (λ t. length t.rest.now ≤ length numbers.now) }
 {
-    let mut used = 0;
+    let mut rest = numbers;
     let mut state = m;
     let mut reply = Reply::Nothing;
-    for n in 0..TESTS {
+    for n in 1..=TESTS {
         if is_over(state) {
             break;
         }
-        if rest.len() - used < 16 {
+        let [interface, reasons, left @ ..] = rest else {
             break;
-        }
-        let s = tested(rt, &rest[used..], n + 1, state, written);
+        };
+        let s = step(state, *interface, *reasons);
+        say(rt, |page| {
+            test_line(page, n, *interface, *reasons, s.reply)
+        })?;
+        rest = left;
         state = s.state;
         reply = s.reply;
-        used += 16;
     }
-    Exchanged {
-        used: used,
-        state: state,
-        reply: reply,
-    }
+    Ok(Exchanged { rest, state, reply })
 }
 
-// A read that ended: its reasons are said by name, and its data kept. How many there are then.
-fn said_and_kept(
-    rt: &impl Print,
-    reads: &mut [u64],
-    many: usize,
-    reply: Reply,
-) -> io::Result<usize> {
-    let Reply::Read(reasons) = reply else {
-        return Ok(many);
-    };
-    let halves = mailbox_data::read(reasons);
+// The reasons of a read that ended, by name.
+fn say_halves(rt: &impl Print, reasons: u64) -> io::Result<()> {
+    let halves = MailboxData::from(reasons);
     say_reasons(rt, b"coarse", halves.coarse)?;
-    say_reasons(rt, b"folded", fold(halves.fine))?;
-    if many < reads.len() {
-        reads[many] = reasons;
-        return Ok(many + 1);
-    }
-    Ok(many)
+    say_reasons(rt, b"folded", fold(halves.fine))
 }
 
-// The exchanges, one after the other.
-fn played(rt: &impl Print, bytes: &[u8], reads: &mut [u64]) -> io::Result<Course> {
-    let mut used = 0;
+// The exchanges, one after the other. What the reads among them gave is kept in `reads`.
+fn played(rt: &impl Print, numbers: &[u64], reads: &mut Vec<u64>) -> io::Result<Course> {
+    let mut rest = numbers;
     let mut over = true;
-    let mut many = 0;
-    for _ in 0..STARTS {
-        if bytes.len() - used < 40 {
-            break;
+    while over && let [command, domain, id, reasons, tests, left @ ..] = rest {
+        let state = started(rt, *command, *domain, *id, *reasons, *tests)?;
+        let t = all_tested(rt, left, state)?;
+        if let Reply::Read(reasons) = t.reply {
+            say_halves(rt, reasons)?;
+            reads.push(reasons)?;
         }
-        let state = started(rt, &bytes[used..])?;
-        used += 40;
-        let mut written = Ok(());
-        let t = all_tested(rt, &bytes[used..], state, &mut written);
-        written?;
-        let left = t.state;
-        let reply = t.reply;
-        used += t.used;
-        over = is_over(left);
-        many = said_and_kept(rt, reads, many, reply)?;
-        if !over {
-            break;
-        }
+        rest = t.rest;
+        over = is_over(t.state);
     }
     Ok(Course {
-        used: used,
-        over: over,
-        reads: many,
+        left: rest.len(),
+        over,
     })
-}
-
-// What the reads that ended fold to, where there is one.
-fn say_all(rt: &impl Print, reads: &[u64], many: usize) -> io::Result<()> {
-    if many == 0 {
-        return Ok(());
-    }
-    if reads.len() < many {
-        return Ok(());
-    }
-    say_reasons(rt, b"all", joined(&reads[..many]))
-}
-
-fn say_rest(rt: &impl Print, length: usize, p: Course) -> io::Result<()> {
-    if !p.over {
-        say(rt, b"unfinished\n")?;
-    }
-    if p.used < length {
-        say(rt, b"unreadable\n")?;
-    }
-    Ok(())
 }
 
 fn main(rt: HostRuntime) -> io::Result<()> {
     // One byte more than an input may have.
     let mut bytes = Vec::new(rt.alloc());
-    let length = rt.reader().take(65537).read_to_end(&mut bytes)?;
-    if LONGEST < length {
-        return say(&rt, b"too long\n");
+    rt.reader().take(65537).read_to_end(&mut bytes)?;
+    if bytes.len() > LONGEST {
+        return println!(rt; "too long");
     }
-    let mut reads = [0u64; READS];
-    let p = played(&rt, &bytes, &mut reads)?;
-    say_rest(&rt, length, p)?;
-    say_all(&rt, &reads, p.reads)
+    let numbers: Vec<u64> = bytes
+        .chunks_exact(8)
+        .map(|b| u64_at(b, 0))
+        .collect(rt.alloc())?;
+    let mut reads = Vec::new(rt.alloc());
+    let course = played(&rt, &numbers, &mut reads)?;
+    if !course.over {
+        println!(rt; "unfinished")?;
+    }
+    if course.left > 0 || bytes.len() % 8 != 0 {
+        println!(rt; "unreadable")?;
+    }
+    if reads.is_empty() {
+        return Ok(());
+    }
+    say_reasons(&rt, b"all", joined(&reads))
 }

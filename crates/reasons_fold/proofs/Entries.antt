@@ -118,3 +118,13 @@ no_core xs = refl
 pub core_more : (xs : List ℕ) (n : ℕ) → bit_or (joined_first xs n) (fold_of (fine_at xs n)) ≡ joined_first xs (n + 1)
 unfolding joined_first fold_of
 core_more xs n = mask_or _ _ 10 ∙ mask_same _ _ 10 (λ j l. sym (any_next (λ i. reached (fine_at xs i) j) n))
+
+-- ---- what the proofs of `by_table` and `all_by_table` go by
+
+-- a byte that was read, wherever it stands
+pub byte_lt : {b : ℕ} (p x : ℕ) → b ≡ field p 8 x → b < 256
+byte_lt p x e = omega (arith, e, field_lt p 8 x)
+
+pub ruleset fold_ways = (byte_lt, fold_entries)
+
+pub ruleset join_ways = (no_core, core_more)

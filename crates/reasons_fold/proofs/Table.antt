@@ -29,3 +29,6 @@ entry_is k h = entries_at 0 1024 k h ∙ ap entry_of (zero-add k)
 pub entry_low : (i : ℕ) → entry_of i < 1024
 unfolding entry_of
 entry_low i = mask_lt (reached_from (i / 256 * 8) (i % 256)) 10
+
+-- what the proof of `entry` goes by
+pub ruleset entry_ways = (table_length, entry_is)

@@ -6,6 +6,7 @@ use crate::masks::{all_masks, entry};
 use fields::bits::field;
 
 // The entries of the four bytes, joined.
+#[tactic(auto, using(crate::proofs::Entries::fold_ways))]
 fn by_table(masks: &[u16], fine: u64) -> u64
     requires { masks.now ≡ table }
     ensures answer { result ≡ fold_of fine }
@@ -21,20 +22,18 @@ fn by_table(masks: &[u16], fine: u64) -> u64
 pub fn fold(fine: u64) -> u64
     ensures answer { result ≡ fold_of fine }
 {
-    let table = all_masks();
-    by_table(&table, fine)
+    by_table(&all_masks(), fine)
 }
 
 // The folds of several cores, joined.
+#[tactic(auto, using(crate::proofs::Entries::join_ways), unfolding(crate::specs::Fold::joined_of))]
 fn all_by_table(masks: &[u16], polled: &[u64]) -> u64
     requires { masks.now ≡ table }
     ensures answer { result ≡ joined_of polled.now }
 {
-    let mut coarse: u64 = 0;
-    let mut i = 0;
-    while i < polled.len() {
-        coarse = coarse | by_table(masks, field(polled[i], 32, 32));
-        i += 1;
+    let mut coarse = 0;
+    for &word in polled {
+        coarse |= by_table(masks, field(word, 32, 32));
     }
     coarse
 }
@@ -44,6 +43,5 @@ fn all_by_table(masks: &[u16], polled: &[u64]) -> u64
 pub fn joined(polled: &[u64]) -> u64
     ensures answer { result ≡ joined_of polled.now }
 {
-    let table = all_masks();
-    all_by_table(&table, polled)
+    all_by_table(&all_masks(), polled)
 }

@@ -58,9 +58,10 @@ pub(crate) fn all_masks() -> [u16; 1024]
 }
 
 // Entry i of the table.
+#[tactic(auto, using(crate::proofs::Table::entry_ways))]
 pub(crate) fn entry(masks: &[u16], i: u64) -> u64
     requires { (masks.now ≡ table) × (i < 1024) }
     ensures answer { result ≡ entry_of i }
 {
-    masks[i as usize] as u64
+    u64::from(masks[i as usize])
 }

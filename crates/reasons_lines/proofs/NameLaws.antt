@@ -1,9 +1,9 @@
 -- The names of the coarse reasons as one row of bytes, and on a page, bit by bit; and the bits that have none. Assumes nothing.
-use Prim.Native.Nat.{ℕ, zero, suc, ◌+◌, ◌-◌, ◌^◌, ◌≤◌, ◌<◌}
+use Prim.Native.Nat.{ℕ, ◌+◌, ◌-◌, ◌^◌, ◌≤◌, ◌<◌}
 use mathlib.Core.Path.{◌≡◌, refl, sym, ap, subst, ◌∙◌}
 use mathlib.Core.Bool.{Bool, true, false, cond}
-use mathlib.Core.List.{List, [], ◌∷◌, ◌++◌, append-nil}
-use lib.ListN.{length, get_or, take, drop}
+use mathlib.Core.List.{map, List, [], ◌∷◌, ◌++◌, append-nil}
+use lib.ListN.{length, get_or}
 use borrow.Author.Tests.{eq-eqb, ne_eqb}
 use native.Mathlib.Numerals.{add-one}
 use native.Mathlib.Omega.{arith}
@@ -14,59 +14,14 @@ use Rattle.fields.specs.Bits.{field}
 use Rattle.fields.specs.Masks.{mask_of, is_set}
 use Rattle.fields.proofs.FieldLaws.{field_lt}
 use Rattle.fields.proofs.MaskLaws.{mask_same, mask_clear_above, field_set, mask_whole}
-use Rattle.text.specs.Page.{joined}
 use Rattle.text.specs.Words.{line_feed}
-use Rattle.text.proofs.PageLaws.{PutAll, runs_on}
+use denote.Ref.{Bor}
+use Rattle.std.proofs.lemmas.List.{get_or-map, length-map}
+use Rattle.text.specs.declared.page.Page.{Page}
+use Rattle.text.specs.Page.{Wrote}
+use Rattle.text.proofs.PageLaws.{wrote_on}
 use Rattle.reasons_lines.specs.ReasonLines.{reserved_text, names, name_runs, names_below, end_text}
 use Rattle.reasons_lines.specs.Facts.{NamesFact, ReservedFact}
-
--- ---- the row
-
--- where each name starts, and last where the row ends
-abbrev pub starts : List ℕ
-starts = 0 ∷ 10 ∷ 18 ∷ 24 ∷ 32 ∷ 41 ∷ 45 ∷ 49 ∷ 54 ∷ 58 ∷ 62 ∷ []
-
--- name k is the part of the row from its start to the next name's
-pub record Cut (k : ℕ) : Type 0 where
-  pub rises : get_or starts k 0 ≤ get_or starts (k + 1) 0
-  pub within : get_or starts (k + 1) 0 ≤ 62
-  pub part : take (get_or starts (k + 1) 0 - get_or starts k 0) (drop (get_or starts k 0) (joined names)) ≡ get_or names k []
-
-pub cut : (k : ℕ) → k < 10 → Cut k
-cut zero h = record { rises = omega arith; within = omega arith; part = refl }
-cut (suc zero) h = record { rises = omega arith; within = omega arith; part = refl }
-cut (suc (suc zero)) h = record { rises = omega arith; within = omega arith; part = refl }
-cut (suc (suc (suc zero))) h = record { rises = omega arith; within = omega arith; part = refl }
-cut (suc (suc (suc (suc zero)))) h = record { rises = omega arith; within = omega arith; part = refl }
-cut (suc (suc (suc (suc (suc zero))))) h = record { rises = omega arith; within = omega arith; part = refl }
-cut (suc (suc (suc (suc (suc (suc zero)))))) h = record { rises = omega arith; within = omega arith; part = refl }
-cut (suc (suc (suc (suc (suc (suc (suc zero))))))) h = record { rises = omega arith; within = omega arith; part = refl }
-cut (suc (suc (suc (suc (suc (suc (suc (suc zero)))))))) h = record { rises = omega arith; within = omega arith; part = refl }
-cut (suc (suc (suc (suc (suc (suc (suc (suc (suc zero))))))))) h = record { rises = omega arith; within = omega arith; part = refl }
-cut (suc (suc (suc (suc (suc (suc (suc (suc (suc (suc k)))))))))) h = absurd (omega arith)
-
--- the same of a row that holds the names
-pub row_length : (row : List ℕ) → row ≡ joined names → length row ≡ 62
-row_length row e = ap length e
-
-pub name_in : (row : List ℕ) → row ≡ joined names → (k : ℕ) → k < 10
-    → take (get_or starts (k + 1) 0 - get_or starts k 0) (drop (get_or starts k 0) row) ≡ get_or names k []
-name_in row e k h =
-    subst (λ (xs : List ℕ). take (get_or starts (k + 1) 0 - get_or starts k 0) (drop (get_or starts k 0) xs) ≡ get_or names k []) (sym e) (cut k h).part
-
--- ---- on a page
-
--- no bit yet
-pub names_none : (xs : List ℕ) (at x : ℕ) → PutAll xs at at xs (names_below x 0)
-unfolding names_below
-names_none xs at x = (refl, refl)
-
--- one bit more
-pub names_next : (xs : List ℕ) (at x k : ℕ) {m r : ℕ} {ps rs : List ℕ} → PutAll xs at m ps (names_below x k) → PutAll ps m r rs (name_runs k (is_set x k))
-    → PutAll xs at r rs (names_below x (k + 1))
-unfolding names_below
-names_next xs at x k {m} {r} {ps} {rs} p q =
-    subst (λ (j : ℕ). PutAll xs at r rs (names_below x j)) (sym (add-one k)) (runs_on xs at (names_below x k) (name_runs k (is_set x k)) p q)
 
 -- ---- bit by bit
 
@@ -78,6 +33,32 @@ names_fact x k =
       there = λ e. ap (names_below x) (add-one k) ∙ ap (λ (b : Bool). names_below x k ++ name_runs k b) e;
       clear = λ e. ap (names_below x) (add-one k) ∙ ap (λ (b : Bool). names_below x k ++ name_runs k b) e ∙ append-nil (names_below x k);
     }
+
+-- ---- on a page
+
+-- the references ns lend the ten names; past their end nothing is lent
+pub record Named (ns : List (Bor (List ℕ))) : Type 0 where
+  pub each : map (λ name. name.now) ns ≡ names
+
+abbrev nothing : Bor (List ℕ)
+nothing = record { ref_ptr = (0, 0); now = [] }
+
+module _ (x k : ℕ) {v : ℕ} (e : v ≡ field k 1 x) {p q : Page} (so : Wrote p q (names_below x k)) where
+  -- the bit's name where it is set, nothing where it is not
+  pub names_there : v ≡ 1 → {ns : List (Bor (List ℕ))} → Named ns → k < 10 → {r s : Page} → s ≡ r → Wrote q r ((get_or ns k nothing).now ∷ [])
+      → Wrote p s (names_below x (k + 1))
+  names_there one {ns} f h {r} {s} i w =
+      let l : length ns ≡ 10 = sym (length-map ns (λ name. name.now)) ∙ ap length f.each in
+      let n : (get_or ns k nothing).now ≡ get_or names k [] =
+      sym (get_or-map (λ name. name.now) ns k nothing [] (omega arith)) ∙ ap (λ (yss : List (List ℕ)). get_or yss k []) f.each in
+      subst (λ (t : Page). Wrote p t (names_below x (k + 1))) (sym i)
+      (subst (Wrote p r) (sym ((names_fact x k).there (eq-eqb (field k 1 x) 1 (sym e ∙ one))))
+      (wrote_on (names_below x k) (get_or names k [] ∷ []) so (subst (λ (ys : List ℕ). Wrote q r (ys ∷ [])) n w)))
+
+  pub names_clear : (v ≡ 1 → ⊥) → {s : Page} → s ≡ q → Wrote p s (names_below x (k + 1))
+  names_clear f i =
+      subst (λ (t : Page). Wrote p t (names_below x (k + 1))) (sym i)
+      (subst (Wrote p q) (sym ((names_fact x k).clear (ne_eqb (field k 1 x) 1 (λ o. f (e ∙ o))))) so)
 
 -- ---- bits without a name
 

@@ -3,17 +3,17 @@
 ghost use Rattle.std.specs.Prelude.{◌≡◌, [], ◌∷◌, ◌*◌, ◌≤◌};
 ghost use Rattle.words.specs.Answers.{earliest};
 ghost use Rattle.words.specs.Told as words;
-ghost use Rattle.capture.specs.Capture.{captured};
+ghost use Rattle.capture.specs.Capture.{capture_of};
 ghost use Rattle.capture.specs.Told.{told};
 ghost use Rattle.tpmi_features.specs.Instances.{instance_number};
 ghost use Rattle.reasons_lookups.specs.ByName.{place_for, content_for};
 
-use capture::places::Found;
-use tpmi_features::instances::instance_number;
+use capture::places::{Capture, Place};
+use tpmi_features::instances::instance_place;
 use tpmi_registers::registers::{register, register_place};
-use words::answers::Value;
+use words::answers::Refusal;
 
-// The registers by name.
+// The registers by name, and no enum of four: a call takes any number, and refuses the others with 17.
 pub const HEADER: u64 = 0;
 
 pub const INTERFACE: u64 = 1;
@@ -23,14 +23,13 @@ pub const MAILBOX_DATA: u64 = 2;
 pub const DIE_LEVEL: u64 = 3;
 
 // The refusal of a register that there is not: the instance's own, or 17.
-fn unnamed<'a>(config: &[u8], lo: u8, low: &'a [u8], hi: u8, high: &'a [u8], i: u64) -> u8
-    ensures answer { result ≡ earliest (instance_number (captured config.now lo low.now hi high.now) 12 i ∷ 17 ∷ []) }
+fn unnamed(capture: Capture, i: u64) -> Refusal
+    ensures answer { result.0 ≡ earliest (instance_number (capture_of capture.entry) 12 i ∷ 17 ∷ []) }
 {
-    let number = instance_number(config, lo, low, hi, high, 12, i);
-    if number != 0 {
-        return number;
+    match instance_place(capture, 12, i) {
+        Ok(_) => Refusal(17),
+        Err(refusal) => refusal,
     }
-    17
 }
 
 // Where each register starts in the instance.
@@ -47,37 +46,21 @@ fn offset_of(r: u64) -> usize
 }
 
 // Where register r of instance i stands in the BAR capture.
-pub fn place<'a>(
-    config: &[u8],
-    lo: u8,
-    low: &'a [u8],
-    hi: u8,
-    high: &'a [u8],
-    i: u64,
-    r: u64,
-) -> Found
-    ensures answer { told result ≡ place_for (captured config.now lo low.now hi high.now) i r }
+pub fn place(capture: Capture, i: u64, r: u64) -> Result<Place, Refusal>
+    ensures answer { told result ≡ place_for (capture_of capture.entry) i r }
 {
     if DIE_LEVEL < r {
-        return Found::Refused(unnamed(config, lo, low, hi, high, i));
+        return Err(unnamed(capture, i));
     }
-    register_place(config, lo, low, hi, high, 12, i, offset_of(r))
+    register_place(capture, 12, i, offset_of(r))
 }
 
 // Its content.
-pub fn content<'a>(
-    config: &[u8],
-    lo: u8,
-    low: &'a [u8],
-    hi: u8,
-    high: &'a [u8],
-    i: u64,
-    r: u64,
-) -> Value
-    ensures answer { words.told result ≡ content_for (captured config.now lo low.now hi high.now) i r }
+pub fn content(capture: Capture, i: u64, r: u64) -> Result<u64, Refusal>
+    ensures answer { words.told result ≡ content_for (capture_of capture.entry) i r }
 {
     if DIE_LEVEL < r {
-        return Value::Refused(unnamed(config, lo, low, hi, high, i));
+        return Err(unnamed(capture, i));
     }
-    register(config, lo, low, hi, high, 12, i, offset_of(r))
+    register(capture, 12, i, offset_of(r))
 }

@@ -1,14 +1,14 @@
 -- Laws of the mailbox's steps, one for each way through them. Assumes nothing.
-use Prim.Native.Nat.{ℕ, ◌+◌, ◌-◌, ◌≤◌, ◌<◌}
+use Prim.Native.Nat.{ℕ, ◌+◌, ◌≤◌, ◌<◌}
 use mathlib.Core.Path.{◌≡◌, refl, ap, ◌∙◌}
 use mathlib.Core.Logic.{◌↔◌}
 use mathlib.Core.Bool.{Bool, true, false, cond}
 use mathlib.Core.List.{[], ◌∷◌}
 use native.Mathlib.Omega.{arith}
-use lib.Dec.{ltb, leb, eqb, lit<}
-use borrow.Author.Tests.{ltb-true, ltb-false, lt-ltb, le-ltb, leb-true, leb-false, le-leb, lt-leb, eq-eqb, ne_eqb}
+use lib.Dec.{ltb, lit<}
+use borrow.Author.Tests.{ltb-true, ltb-false, lt-ltb, leb-true, leb-false, le-leb, lt-leb}
 use Rattle.words.specs.Answers.{gives}
-use Rattle.words.proofs.TestLaws.{or_neither, or_skip, or_exactly, fails_else}
+use Rattle.words.proofs.TestLaws.{or_neither, or_exactly, fails_else}
 use Rattle.fields.proofs.FieldLaws.{field_lt}
 use Rattle.fields.proofs.TableLaws.{fit_narrow}
 use Rattle.fields.proofs.Structures.{word_right}
@@ -49,12 +49,6 @@ module _ (e : Exchange) where
   pub outside_not : (outside e ≡ false) ↔ (Outside e → ⊥)
   outside_not = fails_else (outside e) outside_exactly
 
-  -- the first four do not hold: the last decides
-  pub outside_last : e.command ≤ 1 → e.domain ≤ 15 → e.id ≤ 255 → 1 ≤ e.tests → outside e ≡ ltb 1000 e.tests
-  unfolding outside
-  outside_last a b c d =
-      or_skip _ (le-ltb 1 e.command a) ∙ or_skip _ (le-ltb 15 e.domain b) ∙ or_skip _ (le-ltb 255 e.id c) ∙ or_skip _ (le-ltb e.tests 1 d)
-
   -- they fit the interface
   pub word_is : (x : ℕ) → outside e ≡ false → written_of (asks e x) ≡ gives (stored_word e x ∷ [])
   unfolding stored_word interface_of
@@ -90,14 +84,6 @@ module _ (e : Exchange) where
   pub more_tests : last_test e ≡ false → e.busy + 1 < e.tests
   unfolding last_test
   more_tests t = leb-false e.tests (e.busy + 1) t
-
-  pub last_counted : e.busy < e.tests → eqb (e.tests - e.busy) 1 ≡ last_test e
-  unfolding last_test
-  last_counted h = by (leb e.tests (e.busy + 1)) refl
-    where
-      by : (b : Bool) → leb e.tests (e.busy + 1) ≡ b → eqb (e.tests - e.busy) 1 ≡ b
-      by true t = let l = leb-true e.tests (e.busy + 1) t in eq-eqb (e.tests - e.busy) 1 (omega (arith, h, l))
-      by false t = let l = leb-false e.tests (e.busy + 1) t in ne_eqb (e.tests - e.busy) 1 (λ q. omega (arith, h, l, q))
 
   -- fewer are busy than named: one more is no more than 1,000
   pub count_low : outside e ≡ false → last_test e ≡ false → e.busy + 1 < 1000
@@ -155,3 +141,10 @@ step_over x d = refl
 -- a step from a state that is known
 pub in_phase : (m n : Mailbox) (x d : ℕ) (t : Next) → m ≡ n → step_of n x d ≡ t → step_of m x d ≡ t
 in_phase m n x d t q r = ap (λ (k : Mailbox). step_of k x d) q ∙ r
+
+-- what the proofs of `starts`, `ends` and `step` go by
+pub ruleset starts_ways = (word_is, count_low, waits_last, waits_more, starts_busy, starts_idle)
+
+pub ruleset ends_ways = (count_low, waits_last, waits_more, ends_busy, ends_idle)
+
+pub ruleset step_ways = (step_starts, step_ends, no_start, no_end, step_over)

@@ -1,21 +1,23 @@
 -- What the answers of a start and of a step say tells them apart (`BegunOnce`, `ReplyOnce`, `ToldOnce`): the way back from what is said. Assumes nothing.
+use Rattle.std.specs.Prelude.{Result, Ok, Err}
 use mathlib.Core.Path.{◌≡◌, refl, ap}
 use mathlib.Core.List.{[], ◌∷◌}
 use Rattle.words.proofs.AnswerLaws.{once}
-use Rattle.reasons_mailbox.specs.declared.mailbox.Begun.{Begun}
+use Rattle.words.specs.declared.answers.Refusal.{Refusal}
+use Rattle.reasons_mailbox.specs.declared.mailbox.Mailbox.{Mailbox}
 use Rattle.reasons_mailbox.specs.declared.mailbox.Reply.{Reply}
 use Rattle.reasons_mailbox.specs.declared.mailbox.Stepped.{Stepped}
 use Rattle.reasons_mailbox.specs.Mailbox.{Begins, no, begins, Said, waits, stores, ended, refused, nothing, Next, told_begun, told_reply, told}
 use Rattle.reasons_mailbox.specs.Facts.{BegunOnce, ReplyOnce, ToldOnce}
 
-begun_back : Begins → Begun
-begun_back (no n) = Begun.Refused n
-begun_back (begins m) = Begun.At m
+begun_back : Begins → Result Mailbox Refusal
+begun_back (no n) = Err (record { 0 = n })
+begun_back (begins m) = Ok m
 
-begun_back_law : (b : Begun) → begun_back (told_begun b) ≡ b
+begun_back_law : (b : Result Mailbox Refusal) → begun_back (told_begun b) ≡ b
 unfolding begun_back
-begun_back_law (Begun.At m) = refl
-begun_back_law (Begun.Refused n) = refl
+begun_back_law (Ok m) = refl
+begun_back_law (Err r) = refl
 
 pub begun_once : BegunOnce
 begun_once = once told_begun begun_back begun_back_law

@@ -15,14 +15,14 @@
 --   step_of m x d        a step from any state: one whose numbers are outside is over
 --   told_begun, told_reply, told   what each case of the code's enums and its struct say
 -- Assumes nothing.
-use Rattle.std.specs.Prelude.{ℕ, ◌+◌, Bool, cond, ◌||◌, List, [], ◌∷◌, ltb, leb, eqb}
+use Rattle.std.specs.Prelude.{ℕ, ◌+◌, Bool, cond, ◌||◌, List, [], ◌∷◌, ltb, leb, eqb, Result, Ok, Err}
 use Rattle.fields.specs.Tables.{with_fields}
 use Rattle.reasons_registers.specs.MailboxInterface.{widths, interface_of, values}
 use Rattle.reasons_registers.specs.declared.mailbox_interface.Interface.{Interface}
 use Rattle.reasons_mailbox.specs.declared.mailbox.Exchange.{Exchange}
 use Rattle.reasons_mailbox.specs.declared.mailbox.Mailbox.{Mailbox}
 use Rattle.reasons_mailbox.specs.declared.mailbox.Mailbox.TheVariants.{Starting, Ending, Over}
-use Rattle.reasons_mailbox.specs.declared.mailbox.Begun.{Begun}
+use Rattle.words.specs.declared.answers.Refusal.{Refusal}
 use Rattle.reasons_mailbox.specs.declared.mailbox.Reply.{Reply}
 use Rattle.reasons_mailbox.specs.declared.mailbox.Stepped.{Stepped}
 
@@ -103,9 +103,9 @@ step_of Over x d = over
 
 -- ---- the code's enums
 
-abbrev pub told_begun : Begun → Begins
-told_begun (Begun.At m) = begins m
-told_begun (Begun.Refused n) = no n
+abbrev pub told_begun : Result Mailbox Refusal → Begins
+told_begun (Ok m) = begins m
+told_begun (Err r) = no r.0
 
 abbrev pub told_reply : Reply → Said
 told_reply Reply.Waits = waits

@@ -4,12 +4,12 @@ ghost use Rattle.std.specs.Prelude.{◌≡◌, false};
 ghost use Rattle.words.specs.Told as words;
 ghost use Rattle.reasons_registers.specs.MailboxInterface.{written_of};
 ghost use Rattle.reasons_mailbox.specs.declared.mailbox.Mailbox.TheVariants.{Over};
-ghost use Rattle.reasons_mailbox.specs.Mailbox.{exchange_of, counting, outside, begun_of, is_busy, asks, stores, ended, next, last_test, to_store, taken, starts_of, ends_of, step_of, told_begun, told_reply, told};
+ghost use Rattle.reasons_mailbox.specs.Mailbox.{exchange_of, outside, begun_of, is_busy, asks, stores, ended, next, last_test, to_store, taken, starts_of, ends_of, step_of, told_begun, told_reply, told};
 
-use reasons_registers::mailbox_interface::{Interface, read, write};
-use words::answers::Value;
+use reasons_registers::mailbox_interface::Interface;
+use words::answers::Refusal;
 
-// The commands by name.
+// The commands by name, and no enum of two: a start takes any number, and refuses the others with 17.
 pub const READ: u64 = 0;
 
 pub const WRITE: u64 = 1;
@@ -35,13 +35,6 @@ pub enum Mailbox {
     Over,
 }
 
-// An exchange to go on with, or 17.
-#[derive(Clone, Copy)]
-pub enum Begun {
-    At(Mailbox),
-    Refused(u8),
-}
-
 // What a step says: test again; store the interface word, or first the data and then the word; ended, a read with the data; 30; or, where the
 // exchange was over before, nothing.
 #[derive(Clone, Copy)]
@@ -63,83 +56,64 @@ pub struct Stepped {
 
 // A number that no exchange has: a command that is neither read nor write, a domain or an identifier that does not fit the interface, or no
 // number of tests from 1 to 1,000.
+#[tactic(auto, unfolding(crate::specs::Mailbox::outside))]
 fn outside(e: Exchange) -> bool
     ensures answer { result ≡ outside e }
 {
-    if WRITE < e.command {
-        return true;
-    }
-    if 15 < e.domain {
-        return true;
-    }
-    if 255 < e.id {
-        return true;
-    }
-    if e.tests < 1 {
-        return true;
-    }
-    1000 < e.tests
+    WRITE < e.command || 15 < e.domain || 255 < e.id || e.tests < 1 || 1000 < e.tests
 }
 
 // A read or a write, of any domain and identifier that fit; 17 where a number lies outside.
-pub fn start(command: u64, domain: u64, id: u64, reasons: u64, tests: u64) -> Begun
+#[tactic(auto, unfolding(crate::specs::Mailbox::begun_of))]
+pub fn start(
+    command: u64,
+    domain: u64,
+    id: u64,
+    reasons: u64,
+    tests: u64,
+) -> Result<Mailbox, Refusal>
     ensures answer { told_begun result ≡ begun_of (exchange_of command domain id reasons tests) }
 {
     let e = Exchange {
-        command: command,
-        domain: domain,
-        id: id,
-        reasons: reasons,
-        tests: tests,
+        command,
+        domain,
+        id,
+        reasons,
+        tests,
         busy: 0,
     };
     if outside(e) {
-        return Begun::Refused(17);
+        return Err(Refusal(17));
     }
-    Begun::At(Mailbox::Starting(e))
+    Ok(Mailbox::Starting(e))
 }
 
 // RUN_BUSY reads 1.
+#[tactic(auto, unfolding(crate::specs::Mailbox::is_busy))]
 fn is_busy(interface: u64) -> bool
     ensures answer { result ≡ is_busy interface }
 {
-    read(interface).busy == 1
+    Interface::from(interface).busy == 1
 }
 
 // A busy test now is the last that the exchange waits for.
+#[tactic(auto, unfolding(crate::specs::Mailbox::last_test))]
 fn last_test(e: Exchange) -> bool
     ensures answer { result ≡ last_test e }
 {
-    if e.busy < e.tests {
-        return e.tests - e.busy == 1;
-    }
-    true
-}
-
-// The exchange, of which so many tests in a row were busy.
-fn counting(e: Exchange, busy: u64) -> Exchange
-    ensures answer { result ≡ counting e busy }
-{
-    Exchange {
-        command: e.command,
-        domain: e.domain,
-        id: e.id,
-        reasons: e.reasons,
-        tests: e.tests,
-        busy: busy,
-    }
+    e.tests.saturating_sub(e.busy) <= 1
 }
 
 // The interface's word that starts the exchange: reserved bits stay as they were read.
-fn word_for(e: Exchange, interface: u64) -> Value
+fn word_for(e: Exchange, interface: u64) -> Result<u64, Refusal>
     ensures answer { words.told result ≡ written_of (asks e interface) }
 {
-    write(Interface {
+    u64::try_from(Interface {
         command: e.command,
         domain: e.domain,
         id: e.id,
-        reserved20: read(interface).reserved20,
         busy: 1,
+        ..Interface::from(interface)
     })
 }
 
@@ -148,9 +122,10 @@ fn store(e: Exchange, word: u64) -> Reply
     ensures answer { told_reply result ≡ stores (to_store e word) }
 {
     if e.command == READ {
-        return Reply::Store(word);
+        Reply::Store(word)
+    } else {
+        Reply::StoreBoth(e.reasons, word)
     }
-    Reply::StoreBoth(e.reasons, word)
 }
 
 // How it ends: a read takes the data.
@@ -158,9 +133,10 @@ fn end(e: Exchange, reasons: u64) -> Reply
     ensures answer { told_reply result ≡ ended (taken e reasons) }
 {
     if e.command == READ {
-        return Reply::Read(reasons);
+        Reply::Read(reasons)
+    } else {
+        Reply::Written
     }
-    Reply::Written
 }
 
 // The exchange is over, and this is said.
@@ -169,11 +145,12 @@ fn over(reply: Reply) -> Stepped
 {
     Stepped {
         state: Mailbox::Over,
-        reply: reply,
+        reply,
     }
 }
 
 // A step of the first wait.
+#[tactic(auto, using(crate::proofs::MailboxLaws::starts_ways))]
 fn starts(e: Exchange, interface: u64) -> Stepped
     requires { outside e ≡ false }
     ensures answer { told result ≡ starts_of e interface }
@@ -183,21 +160,25 @@ fn starts(e: Exchange, interface: u64) -> Stepped
             return over(Reply::Refused(30));
         }
         return Stepped {
-            state: Mailbox::Starting(counting(e, e.busy + 1)),
+            state: Mailbox::Starting(Exchange {
+                busy: e.busy + 1,
+                ..e
+            }),
             reply: Reply::Waits,
         };
     }
-    let Value::Is(word) = word_for(e, interface) else {
+    let Ok(word) = word_for(e, interface) else {
         // The numbers of an exchange fit.
         return over(Reply::Nothing);
     };
     Stepped {
-        state: Mailbox::Ending(counting(e, 0)),
+        state: Mailbox::Ending(Exchange { busy: 0, ..e }),
         reply: store(e, word),
     }
 }
 
 // A step of the second wait, which counts anew.
+#[tactic(auto, using(crate::proofs::MailboxLaws::ends_ways))]
 fn ends(e: Exchange, interface: u64, reasons: u64) -> Stepped
     requires { outside e ≡ false }
     ensures answer { told result ≡ ends_of e interface reasons }
@@ -209,29 +190,23 @@ fn ends(e: Exchange, interface: u64, reasons: u64) -> Stepped
         return over(Reply::Refused(30));
     }
     Stepped {
-        state: Mailbox::Ending(counting(e, e.busy + 1)),
+        state: Mailbox::Ending(Exchange {
+            busy: e.busy + 1,
+            ..e
+        }),
         reply: Reply::Waits,
     }
 }
 
 // One test of RUN_BUSY in the interface value that the host read; `reasons` is the data value that it read beside it. A state that no exchange
 // leaves is over.
+#[tactic(auto, using(crate::proofs::MailboxLaws::step_ways))]
 pub fn step(m: Mailbox, interface: u64, reasons: u64) -> Stepped
     ensures answer { told result ≡ step_of m interface reasons }
 {
     match m {
-        Mailbox::Starting(e) => {
-            if outside(e) {
-                return over(Reply::Nothing);
-            }
-            starts(e, interface)
-        }
-        Mailbox::Ending(e) => {
-            if outside(e) {
-                return over(Reply::Nothing);
-            }
-            ends(e, interface, reasons)
-        }
-        Mailbox::Over => over(Reply::Nothing),
+        Mailbox::Starting(e) if !outside(e) => starts(e, interface),
+        Mailbox::Ending(e) if !outside(e) => ends(e, interface, reasons),
+        _ => over(Reply::Nothing),
     }
 }

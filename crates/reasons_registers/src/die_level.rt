@@ -6,7 +6,7 @@ ghost use Rattle.reasons_registers.specs.DieLevel.{die_level_of, written_of};
 
 use fields::bits::field;
 use fields::tables::word_of;
-use words::answers::Value;
+use words::answers::Refusal;
 
 // Software clears what hardware has set. A reserved field is named by its lowest bit.
 #[derive(Clone, Copy)]
@@ -18,18 +18,25 @@ pub struct DieLevel {
 }
 
 // The die level that a register's content says.
-pub fn read(register: u64) -> DieLevel
-    ensures answer { result ≡ die_level_of register }
-{
-    DieLevel {
-        coarse: field(register, 0, 32),
-        reserved32: field(register, 32, 32),
+impl From<u64> for DieLevel {
+    ghost from_gives = { λ register l. l ≡ die_level_of register };
+
+    #[tactic(auto, unfolding(crate::specs::DieLevel::die_level_of))]
+    fn from(register: u64) -> DieLevel {
+        DieLevel {
+            coarse: field(register, 0, 32),
+            reserved32: field(register, 32, 32),
+        }
     }
 }
 
-// The register's content that says this die level.
-pub fn write(l: DieLevel) -> Value
-    ensures answer { told result ≡ written_of l }
-{
-    word_of(&[32, 32], &[l.coarse, l.reserved32])
+// The register's content that says a die level; 17 where a number does not fit its field.
+impl TryFrom<DieLevel> for u64 {
+    type Error = Refusal;
+
+    ghost try_from_gives = { λ l r. told r ≡ written_of l };
+
+    fn try_from(l: DieLevel) -> Result<u64, Refusal> {
+        word_of(&[32, 32], &[l.coarse, l.reserved32])
+    }
 }

@@ -6,7 +6,7 @@ ghost use Rattle.reasons_registers.specs.MailboxData.{mailbox_data_of, written_o
 
 use fields::bits::field;
 use fields::tables::word_of;
-use words::answers::Value;
+use words::answers::Refusal;
 
 // Software clears what hardware has set.
 #[derive(Clone, Copy)]
@@ -18,18 +18,25 @@ pub struct MailboxData {
 }
 
 // The data that a register's content says.
-pub fn read(register: u64) -> MailboxData
-    ensures answer { result ≡ mailbox_data_of register }
-{
-    MailboxData {
-        coarse: field(register, 0, 32),
-        fine: field(register, 32, 32),
+impl From<u64> for MailboxData {
+    ghost from_gives = { λ register d. d ≡ mailbox_data_of register };
+
+    #[tactic(auto, unfolding(crate::specs::MailboxData::mailbox_data_of))]
+    fn from(register: u64) -> MailboxData {
+        MailboxData {
+            coarse: field(register, 0, 32),
+            fine: field(register, 32, 32),
+        }
     }
 }
 
-// The register's content that says this data.
-pub fn write(d: MailboxData) -> Value
-    ensures answer { told result ≡ written_of d }
-{
-    word_of(&[32, 32], &[d.coarse, d.fine])
+// The register's content that says data; 17 where a number does not fit its field.
+impl TryFrom<MailboxData> for u64 {
+    type Error = Refusal;
+
+    ghost try_from_gives = { λ d r. told r ≡ written_of d };
+
+    fn try_from(d: MailboxData) -> Result<u64, Refusal> {
+        word_of(&[32, 32], &[d.coarse, d.fine])
+    }
 }

@@ -6,7 +6,7 @@ ghost use Rattle.reasons_registers.specs.MailboxInterface.{interface_of, written
 
 use fields::bits::field;
 use fields::tables::word_of;
-use words::answers::Value;
+use words::answers::Refusal;
 
 // A reserved field is named by its lowest bit.
 #[derive(Clone, Copy)]
@@ -23,24 +23,31 @@ pub struct Interface {
 }
 
 // The interface that a register's content says.
-pub fn read(register: u64) -> Interface
-    ensures answer { result ≡ interface_of register }
-{
-    Interface {
-        command: field(register, 0, 8),
-        domain: field(register, 8, 4),
-        id: field(register, 12, 8),
-        reserved20: field(register, 20, 43),
-        busy: field(register, 63, 1),
+impl From<u64> for Interface {
+    ghost from_gives = { λ register m. m ≡ interface_of register };
+
+    #[tactic(auto, unfolding(crate::specs::MailboxInterface::interface_of))]
+    fn from(register: u64) -> Interface {
+        Interface {
+            command: field(register, 0, 8),
+            domain: field(register, 8, 4),
+            id: field(register, 12, 8),
+            reserved20: field(register, 20, 43),
+            busy: field(register, 63, 1),
+        }
     }
 }
 
-// The register's content that says this interface.
-pub fn write(m: Interface) -> Value
-    ensures answer { told result ≡ written_of m }
-{
-    word_of(
-        &[8, 4, 8, 43, 1],
-        &[m.command, m.domain, m.id, m.reserved20, m.busy],
-    )
+// The register's content that says an interface; 17 where a number does not fit its field.
+impl TryFrom<Interface> for u64 {
+    type Error = Refusal;
+
+    ghost try_from_gives = { λ m r. told r ≡ written_of m };
+
+    fn try_from(m: Interface) -> Result<u64, Refusal> {
+        word_of(
+            &[8, 4, 8, 43, 1],
+            &[m.command, m.domain, m.id, m.reserved20, m.busy],
+        )
+    }
 }

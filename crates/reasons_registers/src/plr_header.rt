@@ -6,7 +6,7 @@ ghost use Rattle.reasons_registers.specs.PlrHeader.{header_of, written_of};
 
 use fields::bits::field;
 use fields::tables::word_of;
-use words::answers::Value;
+use words::answers::Refusal;
 
 // A reserved field is named by its lowest bit.
 #[derive(Clone, Copy)]
@@ -17,18 +17,25 @@ pub struct Header {
 }
 
 // The header that a register's content says.
-pub fn read(register: u64) -> Header
-    ensures answer { result ≡ header_of register }
-{
-    Header {
-        version: field(register, 0, 8),
-        reserved8: field(register, 8, 56),
+impl From<u64> for Header {
+    ghost from_gives = { λ register h. h ≡ header_of register };
+
+    #[tactic(auto, unfolding(crate::specs::PlrHeader::header_of))]
+    fn from(register: u64) -> Header {
+        Header {
+            version: field(register, 0, 8),
+            reserved8: field(register, 8, 56),
+        }
     }
 }
 
-// The register's content that says this header.
-pub fn write(h: Header) -> Value
-    ensures answer { told result ≡ written_of h }
-{
-    word_of(&[8, 56], &[h.version, h.reserved8])
+// The register's content that says a header; 17 where a number does not fit its field.
+impl TryFrom<Header> for u64 {
+    type Error = Refusal;
+
+    ghost try_from_gives = { λ h r. told r ≡ written_of h };
+
+    fn try_from(h: Header) -> Result<u64, Refusal> {
+        word_of(&[8, 56], &[h.version, h.reserved8])
+    }
 }

@@ -3,29 +3,21 @@
 use Prim.Native.Nat.{ℕ, zero, suc, ◌+◌, ◌-◌, ◌≤◌, ◌<◌}
 use mathlib.Core.Path.{◌≡◌, refl, sym, ap, ◌∙◌}
 use mathlib.Core.Bool.{Bool, true, false, cond, ◌||◌, false≢true}
-use mathlib.Core.List.{List, [], ◌∷◌}
+use mathlib.Core.List.{List, [], ◌∷◌, ◌++◌, append_assoc}
+use Rattle.std.specs.Prelude.{Some, None, min}
+use Rattle.std.specs.List.{slice_get}
+use Rattle.std.proofs.lemmas.List.{take-append-drop, drop-drop, take_more_set, set_split}
 use native.Mathlib.Omega.{arith}
-use native.Mathlib.Numerals.{add-one}
-use lib.ListN.{length, get_or, drop, set, get_or-eq_default}
-use lib.Seq.{drop-cons, get_or-set_same, get_or-set_other}
+use native.Mathlib.Nat.{zero-add, add-zero}
+use native.Mathlib.Decide.{ℕ_discrete as decide}
+use lib.ListN.{length, get_or, take, drop, set, length-set}
+use lib.Seq.{drop-set-lt, get_or-set_same, get_or-set_other}
 use lib.Dec.{ltb, leb, eqb}
-use borrow.Author.Tests.{le-leb, lt-leb, lt-ltb, le-ltb, eq-eqb, ne_eqb, leb-true, leb-false, ltb-true, ltb-false}
+use borrow.Author.Tests.{le-leb, lt-leb, lt-ltb, le-ltb, eq-eqb, ne_eqb, leb-true, leb-false, ltb-false}
 use Rattle.records.specs.declared.partial.Partial.{Partial}
-use Rattle.records.specs.Partial.{Rule, length_of, kind_of, longer, halted, cannot, took_of, is_whole, is_stopped, ended_of, gathered}
+use Rattle.records.specs.Partial.{Rule, length_of, kind_of, longer, halted, cannot, took_of, is_whole, is_stopped, ended_of, holding, gathered}
 
 -- ---- lengths
-
-pub length_past : (t : List ℕ) (k : ℕ) → length t ≤ k → 0 ≡ length_of t k
-unfolding length_of
-length_past t k h = simp (get_or-eq_default t 0 h)
-
-pub length_known : (t : List ℕ) (k n : ℕ) → n ≡ get_or t k 0 → n ≤ 32 → n ≡ length_of t k
-unfolding length_of
-length_known t k n e h = simp (← e, le-leb _ _ h)
-
-pub length_long : (t : List ℕ) (k n : ℕ) → n ≡ get_or t k 0 → 32 < n → 0 ≡ length_of t k
-unfolding length_of
-length_long t k n e h = simp (← e, lt-leb _ _ h)
 
 pub length_most : (t : List ℕ) (k : ℕ) → length_of t k ≤ 32
 unfolding length_of
@@ -55,14 +47,6 @@ kind_stays p z room = go p.held refl
 
 -- ---- whether a byte can come
 
--- the end could pass 2^64, so the code compares the place with what the limit leaves
-pub late_moved : (l n place : ℕ) → n ≤ l → ltb (l - n) place ≡ ltb l (place + n)
-late_moved l n place h = go (ltb (l - n) place) refl
-  where
-    go : (b : Bool) → ltb (l - n) place ≡ b → b ≡ ltb l (place + n)
-    go true e = let k : l - n < place = ltb-true _ _ e in sym (lt-ltb l (place + n) (omega arith))
-    go false e = let k : place ≤ l - n = ltb-false _ _ e in sym (le-ltb l (place + n) (omega arith))
-
 module _ (u : Rule) (p : Partial) (k : ℕ) where
   pub cannot_stopped : p.stopped ≡ true → true ≡ cannot u p k
   unfolding cannot
@@ -76,10 +60,6 @@ module _ (u : Rule) (p : Partial) (k : ℕ) where
     pub cannot_late : p.held < n → u.limit < p.place + n → true ≡ cannot u p k
     unfolding cannot
     cannot_late h l = simp (s, ← e, lt-leb _ _ h, lt-ltb _ _ l)
-
-    pub cannot_end : p.held < n → n ≤ u.limit → ltb (u.limit - n) p.place ≡ cannot u p k
-    unfolding cannot
-    cannot_end h l = late_moved u.limit n p.place l ∙ simp (s, ← e, lt-leb _ _ h)
 
     pub can : p.held < n → p.place + n ≤ u.limit → false ≡ cannot u p k
     unfolding cannot
@@ -155,11 +135,16 @@ module _ (u : Rule) (p : Partial) where
 
 -- ---- a piece
 
+-- of no byte nothing comes
+pub gathered_none : (u : Rule) (p : Partial) (xs : List ℕ) → slice_get xs 0 ≡ None → record { partial = p; used = 0; whole = false } ≡ gathered u 0 p xs
+unfolding gathered
+gathered_none u p [] e = refl
+gathered_none u p (b ∷ bs) e = cc
+
 module _ (u : Rule) (n : ℕ) (p : Partial) where
-  pub gathered_end : (bs : List ℕ) → length bs ≡ 0 → record { partial = p; used = n; whole = false } ≡ gathered u n p bs
+  gathered_end : gathered u n p [] ≡ record { partial = p; used = n; whole = false }
   unfolding gathered
-  gathered_end [] e = refl
-  gathered_end (b ∷ bs) e = absurd (omega (arith, e))
+  gathered_end = refl
 
   gathered_whole : (b : ℕ) (bs : List ℕ) → is_whole u (took_of u p b) ≡ true
       → gathered u n p (b ∷ bs) ≡ record { partial = took_of u p b; used = suc n; whole = true }
@@ -183,45 +168,92 @@ gathered_stopped u n p (b ∷ bs) s =
     ∙ ap (λ (k : ℕ). record { partial = p; used = k; whole = false }) (omega arith)
 
 -- the first byte of a piece stops it
-pub gathered_halts : (u : Rule) (p : Partial) (xs : List ℕ) → 0 < length xs → cannot u p (kind_of p (get_or xs 0 0)) ≡ true
+pub gathered_halts : (u : Rule) (p : Partial) (xs : List ℕ) (b : ℕ) → slice_get xs 0 ≡ Some b → cannot u p (kind_of p b) ≡ true
     → record { partial = halted p; used = length xs; whole = false } ≡ gathered u 0 p xs
-gathered_halts u p [] l c = absurd (omega (arith, l))
-gathered_halts u p (b ∷ bs) l c =
-    let t : took_of u p b ≡ halted p = took_halted u p b c in
+gathered_halts u p [] b f c = cc
+gathered_halts u p (x ∷ xs) b f c =
+    let same : x ≡ b = cc in
+    let t : took_of u p x ≡ halted p = took_halted u p x (rw same c) in
     sym (
-    gathered_more u 0 p b bs (ap (is_whole u) t ∙ whole_stopped u (halted p) refl)
-    ∙ ap (λ (q : Partial). gathered u 1 q bs) t
-    ∙ gathered_stopped u 1 (halted p) bs refl
+    gathered_more u 0 p x xs (ap (is_whole u) t ∙ whole_stopped u (halted p) refl)
+    ∙ ap (λ (q : Partial). gathered u 1 q xs) t
+    ∙ gathered_stopped u 1 (halted p) xs refl
     ∙ ap (λ (k : ℕ). record { partial = halted p; used = k; whole = false }) (omega arith)
     )
 
--- one turn of the loop: the byte at i comes to the record q, of whose kind a record has n bytes
-module _ (u : Rule) (xs : List ℕ) (i : ℕ) (q : Partial) (n : ℕ) (l : i < length xs) (e : n ≡ length_of u.table (kind_of q (get_or xs i 0)))
+-- one byte: it comes to the record q, of whose kind a record has n bytes
+module _ (u : Rule) (i : ℕ) (q : Partial) (n b : ℕ) (bs : List ℕ) (e : n ≡ length_of u.table (kind_of q b))
     (s : q.stopped ≡ false) (room : 0 < length q.bytes) (h : q.held < n) (m : q.place + n ≤ u.limit) where
-  abbrev b : ℕ
-  b = get_or xs i 0
-
   took : took_of u q b ≡ longer q b
   took = took_longer u q b (sym (can u q (kind_of q b) n e s h m))
 
-  pub turn_whole : q.held + 1 ≡ n → record { partial = longer q b; used = i + 1; whole = true } ≡ gathered u i q (drop i xs)
+  turn_whole : q.held + 1 ≡ n → gathered u i q (b ∷ bs) ≡ record { partial = longer q b; used = suc i; whole = true }
   turn_whole w =
-      sym (
-      ap (gathered u i q) (drop-cons xs i 0 l)
-      ∙ gathered_whole u i q b (drop (suc i) xs) (ap (is_whole u) took ∙ whole_longer u q b n e room ∙ eq-eqb _ _ (sym w))
+      gathered_whole u i q b bs (ap (is_whole u) took ∙ whole_longer u q b n e room ∙ eq-eqb _ _ (sym w))
       ∙ ap (λ (p : Partial). record { partial = p; used = suc i; whole = true }) took
-      ∙ ap (λ (k : ℕ). record { partial = longer q b; used = k; whole = true }) (omega arith)
-      )
 
-  pub turn_more : (q.held + 1 ≡ n → ⊥) → gathered u (i + 1) (longer q b) (drop (i + 1) xs) ≡ gathered u i q (drop i xs)
+  turn_more : (q.held + 1 ≡ n → ⊥) → gathered u i q (b ∷ bs) ≡ gathered u (suc i) (longer q b) bs
   turn_more w =
-      rw add-one
-      (sym (
-      ap (gathered u i q) (drop-cons xs i 0 l)
-      ∙ gathered_more u i q b (drop (suc i) xs) (ap (is_whole u) took ∙ whole_longer u q b n e room ∙ ne_eqb _ _ (λ x. w (sym x)))
-      ∙ ap (λ (p : Partial). gathered u (suc i) p (drop (suc i) xs)) took
-      ))
+      gathered_more u i q b bs (ap (is_whole u) took ∙ whole_longer u q b n e room ∙ ne_eqb _ _ (λ x. w (sym x)))
+      ∙ ap (λ (p : Partial). gathered u (suc i) p bs) took
 
   -- and the kind is the same, whatever comes next
-  pub turn_kind : (z : ℕ) → n ≡ length_of u.table (kind_of (longer q b) z)
+  turn_kind : (z : ℕ) → n ≡ length_of u.table (kind_of (longer q b) z)
   turn_kind z = e ∙ ap (length_of u.table) (sym (kind_stays q b room) ∙ kind_held (longer q b) z (λ x. omega (arith, x)))
+
+-- the first k bytes of a piece stand in the record behind those that were held
+filled_more : (bs ys : List ℕ) (h b k : ℕ) → h < length bs
+    → take (h + 1) (set bs h b) ++ (take k ys ++ drop (h + 1 + k) (set bs h b)) ≡ take h bs ++ (take (suc k) (b ∷ ys) ++ drop (h + suc k) bs)
+filled_more bs ys h b k l =
+    let e : h + 1 + k ≡ h + suc k = omega arith in
+    rw (take_more_set bs h b l, e, drop-set-lt (h + suc k) bs h b (omega arith), append_assoc (take h bs) (b ∷ []) (take k ys ++ drop (h + suc k) bs))
+
+-- a record that goes on
+abbrev going : ℕ → ℕ → List ℕ → Partial
+going place h bs = record { place = place; held = h; bytes = bs; stopped = false }
+
+module _ (u : Rule) (place n : ℕ) (few : n ≤ 32) (fits : place + n ≤ u.limit) where
+  same : {h h′ i i′ : ℕ} {bs bs′ : List ℕ} {w w′ : Bool} → h ≡ h′ → bs ≡ bs′ → i ≡ i′ → w ≡ w′ → holding place h bs i w ≡ holding place h′ bs′ i′ w′
+  same a b c d = cc
+
+  goes_on : (xs : List ℕ) (i h : ℕ) (bs : List ℕ) (k : ℕ) → k ≡ min (length xs) (n - h) → length bs ≡ 32 → h < n → n ≡ length_of u.table (kind_of (going place h bs) (get_or xs 0 0))
+      → gathered u i (going place h bs) xs ≡ holding place (h + k) (take h bs ++ (take k xs ++ drop (h + k) bs)) (i + k) (eqb (h + k) n)
+  goes_on [] i h bs k e room more long =
+      let z : k ≡ 0 = omega arith in
+      gathered_end u i (going place h bs)
+      ∙ rw (z, add-zero) (same refl (sym (take-append-drop h bs)) (omega arith) (sym (ne_eqb h n (λ x. omega (arith, x)))))
+  goes_on (x ∷ xs) i h bs k e room more long =
+      by (decide (h + 1) n) (λ l z. goes_on xs (suc i) (h + 1) (set bs h x) (k - 1) (omega arith) (length-set bs h x ∙ room) l z)
+    where
+      by : Dec (h + 1 ≡ n)
+          → (h + 1 < n → n ≡ length_of u.table (kind_of (going place (h + 1) (set bs h x)) (get_or xs 0 0))
+          → gathered u (suc i) (going place (h + 1) (set bs h x)) xs
+          ≡ holding place (h + 1 + (k - 1)) (take (h + 1) (set bs h x) ++ (take (k - 1) xs ++ drop (h + 1 + (k - 1)) (set bs h x))) (suc i + (k - 1)) (eqb (h + 1 + (k - 1)) n))
+          → gathered u i (going place h bs) (x ∷ xs) ≡ holding place (h + k) (take h bs ++ (take k (x ∷ xs) ++ drop (h + k) bs)) (i + k) (eqb (h + k) n)
+      by (yes w) rest =
+          let one : k ≡ 1 = omega arith in
+          let next : suc h ≡ h + 1 = omega arith in
+          turn_whole u i (going place h bs) n x xs long refl (omega arith) more fits w
+          ∙ rw one (same refl (set_split bs h x (omega arith) ∙ ap (λ (j : ℕ). take h bs ++ (x ∷ drop j bs)) next) (omega arith) (sym (eq-eqb (h + 1) n w)))
+      by (no w) rest =
+          let e : k ≡ suc (k - 1) = omega arith in
+          let next : h + 1 + (k - 1) ≡ h + k = omega arith in
+          turn_more u i (going place h bs) n x xs long refl (omega arith) more fits w
+          ∙ rest (omega arith) (turn_kind u i (going place h bs) n x xs long refl (omega arith) more fits (get_or xs 0 0))
+          ∙ same next (filled_more bs xs h x (k - 1) (omega arith) ∙ ap (λ (j : ℕ). take h bs ++ (take j (x ∷ xs) ++ drop (h + j) bs)) (sym e)) (omega arith)
+          (ap (λ (j : ℕ). eqb j n) next)
+
+-- the bytes of a piece that the record still wants come to it at once
+pub gathered_goes : (u : Rule) (p : Partial) (xs : List ℕ) {b n k m : ℕ} {ys : List ℕ} → slice_get xs 0 ≡ Some b → cannot u p (kind_of p b) ≡ false
+    → n ≡ length_of u.table (kind_of p b) → length p.bytes ≡ 32 → k ≡ min (length xs) (n - p.held) → ys ≡ take k xs → m ≡ k
+    → record { partial = record { place = p.place; held = p.held + k; bytes = take p.held p.bytes ++ (ys ++ drop m (drop p.held p.bytes)); stopped = p.stopped }; used = k; whole = eqb (p.held + k) n }
+    ≡ gathered u 0 p xs
+gathered_goes u p [] f c e room q y z = cc
+gathered_goes u p (x ∷ xs) {b} {n} {k} {m} {ys} f c e room q y z =
+    let first : b ≡ x = cc in
+    let g = can_come u p (kind_of p b) c in
+    let long : n ≡ length_of u.table (kind_of p x) = e ∙ ap (λ (j : ℕ). length_of u.table (kind_of p j)) first in
+    let alike : p ≡ going p.place p.held p.bytes = ap (λ (w : Bool). record { place = p.place; held = p.held; bytes = p.bytes; stopped = w }) g.0 in
+    let room_left = length_most u.table (kind_of p b) in
+    let t = goes_on u p.place n (omega arith) (omega arith) (x ∷ xs) 0 p.held p.bytes k q room (omega arith) (long ∙ ap (λ (j : Partial). length_of u.table (kind_of j x)) alike) in
+    rw (g.0, y, z, drop-drop) (sym (rw zero-add at t))

@@ -1,10 +1,17 @@
-// A record that is put together from pieces of a trace. The table gives for each kind, from 0 on, the bytes of its record, and the limit the
-// bytes that a trace may have.
+// A record that is put together from pieces of a trace.
 ghost use Rattle.std.specs.Prelude.{◌≡◌};
-ghost use Rattle.records.specs.Partial.{rule_of, length_of, kind_of, cannot, halted, begun, is_stopped, ended_of, holding, gathered};
+ghost use Rattle.records.specs.Partial.{rule_of, length_of, kind_of, cannot, halted, begun, is_stopped, ended_of, gathered};
+
+// How records are read: for each kind, from 0 on, the bytes of its record, and the bytes that a trace may have.
+#[derive(Clone, Copy)]
+pub struct Rule<'a> {
+    pub table: &'a [u8],
+    pub limit: u64,
+}
 
 // A record that is being put together: the byte place where it starts, how many of its bytes are held, and they. Stopped: no record can be
-// there, and nothing that comes is looked at.
+// there, and nothing that comes is looked at (a flag, since a stopped record keeps its place and bytes: `halted`). The bytes are held in place and not in a `Vec`: a record is copied, and no call can fail for
+// want of memory.
 #[derive(Clone, Copy)]
 pub struct Partial {
     pub place: u64,
@@ -13,7 +20,8 @@ pub struct Partial {
     pub stopped: bool,
 }
 
-// What a piece brought: the record, how many of the piece's bytes were used, and whether they made it whole.
+// What a piece brought: the record, how many of the piece's bytes were used, and whether they made it whole. The flag stays: the record is there
+// in both cases, so an enum of two would hold the same fields twice.
 #[derive(Clone, Copy)]
 pub struct Gathered {
     pub partial: Partial,
@@ -26,138 +34,102 @@ pub fn begin(place: u64) -> Partial
     ensures answer { result ≡ begun place }
 {
     Partial {
-        place: place,
+        place,
         held: 0,
         bytes: [0; 32],
         stopped: false,
     }
 }
 
-fn wide(b: u8) -> usize
-    ensures answer { result ≡ b }
-{
-    b as usize
-}
-
 // The bytes of a record of this kind, the kind's own among them; 0 for an unknown kind.
+#[tactic(auto, unfolding(crate::specs::Partial::length_of))]
 pub fn length_of(table: &[u8], kind: u8) -> usize
     ensures answer { result ≡ length_of table.now kind }
 {
-    let k = wide(kind);
-    if table.len() <= k {
-        return 0;
-    }
-    let n = wide(table[k]);
+    let n = usize::from(table.get(usize::from(kind)).copied().unwrap_or(0));
     if n <= 32 { n } else { 0 }
 }
 
 impl Partial {
     // The kind is the first byte: b itself, if nothing is held yet.
+    #[tactic(auto, unfolding(crate::specs::Partial::kind_of))]
     fn kind(self, b: u8) -> u8
         ensures answer { result ≡ kind_of self b }
     {
         if self.held == 0 { b } else { self.bytes[0] }
     }
 
-    // No further byte of a record of this kind can come here.
-    fn cannot(self, table: &[u8], limit: u64, kind: u8) -> bool
-        ensures answer { result ≡ cannot (rule_of table.now limit) self kind }
+    // No further byte of a record of this kind can come here: it is stopped, unknown or whole, or would end past the limit.
+    #[tactic(auto, unfolding(crate::specs::Partial::cannot))]
+    fn cannot(self, rule: Rule, kind: u8) -> bool
+        ensures answer { result ≡ cannot (rule_of rule.entry.table.now rule.entry.limit) self kind }
     {
-        if self.stopped {
-            return true;
-        }
-        let n = length_of(table, kind);
-        if n <= self.held {
-            return true;
-        }
-        // The end could pass 2^64.
-        let many = n as u64;
-        if limit < many {
-            return true;
-        }
-        let last = limit - many;
-        last < self.place
+        let n = length_of(rule.table, kind);
+        let end = self.place.checked_add(n as u64);
+        self.stopped || n <= self.held || end.is_none_or(|end| rule.limit < end)
     }
 
-    fn halt(mut self) -> Partial
+    fn halt(self) -> Partial
         ensures answer { result ≡ halted self }
     {
-        self.stopped = true;
-        self
+        Partial {
+            stopped: true,
+            ..self
+        }
     }
 
     // Stopped, or handed in as no reading leaves it.
-    pub fn is_stopped(self, table: &[u8], limit: u64) -> bool
-        ensures answer { result ≡ is_stopped (rule_of table.now limit) self }
+    #[tactic(auto, unfolding(crate::specs::Partial::is_stopped))]
+    pub fn is_stopped(self, rule: Rule) -> bool
+        ensures answer { result ≡ is_stopped (rule_of rule.entry.table.now rule.entry.limit) self }
     {
         if self.held == 0 {
-            return self.stopped || limit < self.place;
+            self.stopped || rule.limit < self.place
+        } else {
+            self.cannot(rule, self.bytes[0])
         }
-        let kind = self.bytes[0];
-        self.cannot(table, limit, kind)
     }
 
     // The trace declared ended: what is held stops at its start.
-    pub fn ended(self, table: &[u8], limit: u64) -> Partial
-        ensures answer { result ≡ ended_of (rule_of table.now limit) self }
+    #[tactic(auto, unfolding(crate::specs::Partial::ended_of))]
+    pub fn ended(self, rule: Rule) -> Partial
+        ensures answer { result ≡ ended_of (rule_of rule.entry.table.now rule.entry.limit) self }
     {
-        if self.is_stopped(table, limit) {
-            return self.halt();
+        if self.is_stopped(rule) || 0 < self.held {
+            self.halt()
+        } else {
+            self
         }
-        if 0 < self.held {
-            return self.halt();
-        }
-        self
-    }
-}
-
-fn held_now(start: u64, held: usize, bytes: [u8; 32], used: usize, whole: bool) -> Gathered
-    ensures answer { result ≡ holding start held bytes used whole }
-{
-    Gathered {
-        partial: Partial {
-            place: start,
-            held: held,
-            bytes: bytes,
-            stopped: false,
-        },
-        used: used,
-        whole: whole,
     }
 }
 
 // The bytes of a piece up to the end of the first record that they make whole; all of them where none is, or where the reading is stopped.
-pub fn gather(table: &[u8], limit: u64, p: Partial, piece: &[u8]) -> Gathered
-    ensures answer { result ≡ gathered (rule_of table.now limit) 0 p piece.now }
+pub fn gather(rule: Rule, p: Partial, piece: &[u8]) -> Gathered
+    ensures answer { result ≡ gathered (rule_of rule.entry.table.now rule.entry.limit) 0 p piece.now }
 {
-    let many = piece.len();
-    if many == 0 {
+    let Some(first) = piece.first() else {
         return Gathered {
             partial: p,
             used: 0,
             whole: false,
         };
-    }
-    let kind = p.kind(piece[0]);
-    if p.cannot(table, limit, kind) {
+    };
+    let kind = p.kind(*first);
+    if p.cannot(rule, kind) {
         return Gathered {
             partial: p.halt(),
-            used: many,
+            used: piece.len(),
             whole: false,
         };
     }
-    let n = length_of(table, kind);
-    let place = p.place;
+    let n = length_of(rule.table, kind);
+    let used = piece.len().min(n - p.held);
+    let held = p.held + used;
     let mut bytes = p.bytes;
-    let mut held = p.held;
-    let mut i = 0;
-    while i < many {
-        bytes[held] = piece[i];
-        held += 1;
-        i += 1;
-        if held == n {
-            return held_now(place, held, bytes, i, true);
-        }
+    bytes[p.held..held].copy_from_slice(&piece[..used]);
+    Gathered {
+        partial: Partial { held, bytes, ..p },
+        used,
+        whole: held == n,
     }
-    held_now(place, held, bytes, i, false)
 }

@@ -3,10 +3,10 @@ use Prim.Native.Nat.{ℕ, ◌+◌, ◌%◌, ◌^◌, ◌≤◌, ◌<◌}
 use mathlib.Core.Path.{◌≡◌, refl, sym, ap, ◌∙◌}
 use mathlib.Core.Bool.{Bool, true, false, cond}
 use mathlib.Core.List.{List, [], ◌∷◌, ◌++◌, append-nil}
-use mathlib.Core.Logic.{◌≢◌}
+use mathlib.Core.Logic.{◌⊎◌, inl, inr}
 use native.Mathlib.Numerals.{add-one}
 use native.Mathlib.Omega.{arith}
-use borrow.Author.Tests.{ne_eqb, eqb-true}
+use borrow.Author.Tests.{eqb-true}
 use lib.Dec.{leb, eqb}
 use lib.ListN.{length, get_or, set, take, drop, drop_of_length-le}
 use lib.Seq.{drop-cons, take-suc-set, take_all, append_snoc}
@@ -15,10 +15,6 @@ use Rattle.words.proofs.StoreLaws.{put_mod, length_stored}
 use Rattle.records_body.specs.Body.{size, numbers_at, stored_numbers}
 
 -- ---- widths
-
-pub size_none : (w : ℕ) → w ≢ 1 → w ≢ 2 → w ≢ 4 → w ≢ 8 → size w ≡ 0
-unfolding size
-size_none w a b c d = simp (ne_eqb w 1 a, ne_eqb w 2 b, ne_eqb w 4 c, ne_eqb w 8 d)
 
 pub size_most : (w : ℕ) → size w ≤ 8
 unfolding size
@@ -62,16 +58,19 @@ module _ (ws : List ℕ) (i : ℕ) where
   unfolding numbers_at
   numbers_end xs vs at k l = rw (drop_of_length-le ws k, take_all i vs l) (sym (append-nil vs))
 
-  -- ys is what the code has stored, and n how many bytes
-  pub stores_turn : (vs xs : List ℕ) (at : ℕ) {ys : List ℕ} {n : ℕ} → i < length ws → i < length vs
-      → ys ≡ stored xs at (size (get_or ws i 0)) (get_or vs i 0) → n ≡ size (get_or ws i 0)
-      → stored_numbers (drop (i + 1) ws) (drop (i + 1) vs) ys (at + n) ≡ stored_numbers (drop i ws) (drop i vs) xs at
-  unfolding stored_numbers
-  stores_turn vs xs at k l e f = rw (e, f, add-one, drop-cons ws i 0 k, drop-cons vs i 0 l)
+-- ys is what the code has stored, and n how many bytes
+pub stores_turn : (ws vs xs : List ℕ) (w v at : ℕ) {ys : List ℕ} {n : ℕ} → ys ≡ stored xs at (size w) v → n ≡ size w
+    → stored_numbers ws vs ys (at + n) ≡ stored_numbers (w ∷ ws) (v ∷ vs) xs at
+unfolding stored_numbers
+stores_turn ws vs xs w v at e f = rw (e, f)
 
-  pub stores_end : (vs xs : List ℕ) (at : ℕ) → length ws ≤ i → xs ≡ stored_numbers (drop i ws) (drop i vs) xs at
-  unfolding stored_numbers
-  stores_end vs xs at k = rw (drop_of_length-le ws k)
+-- where no width or no number is left, nothing is stored
+pub stores_end : (ws vs xs : List ℕ) (at : ℕ) → (ws ≡ []) ⊎ (vs ≡ []) → xs ≡ stored_numbers ws vs xs at
+unfolding stored_numbers
+stores_end [] vs xs at e = refl
+stores_end (w ∷ ws) [] xs at e = refl
+stores_end (w ∷ ws) (v ∷ vs) xs at (inl e) = cc
+stores_end (w ∷ ws) (v ∷ vs) xs at (inr e) = cc
 
 pub length_stores : (ws vs xs : List ℕ) (at : ℕ) → length (stored_numbers ws vs xs at) ≡ length xs
 unfolding stored_numbers

@@ -1,14 +1,14 @@
 -- The line of a record and the line of a stop: how long they can be, and that a page so long shows them whole. Assumes nothing.
-use Prim.Native.Nat.{◌≤◌}
+use Prim.Native.Nat.{ℕ, ◌≤◌}
 use lib.ListN.{length, length-append}
 use native.Mathlib.Omega.{arith}
+use Rattle.std.specs.Prelude.{Option, Some, None, Result, Ok, Err}
+use Rattle.words.specs.declared.answers.Refusal.{Refusal}
 use Rattle.text.specs.Page.{joined}
 use Rattle.text.proofs.LinesLaws.{number_short, refusal_short, line_fits}
 use Rattle.energy_calls.specs.Calls.{told}
 use Rattle.energy_calls.specs.declared.calls.Call.{Call}
 use Rattle.energy_calls.specs.declared.calls.Call.TheVariants.{Open, Read, Resume, Close, Ask}
-use Rattle.energy_calls.specs.declared.calls.Answered.{Answered}
-use Rattle.energy_calls.specs.declared.calls.Answered.TheVariants.{Accepted, Total, Refused}
 use Rattle.replay_lines.specs.Spoken.{call_word, answer_runs}
 use Rattle.replay_lines.specs.Facts.{Sized, RecordLineFact, StopLineFact}
 
@@ -20,10 +20,10 @@ word_short (Resume q) = omega arith
 word_short Close = omega arith
 word_short Ask = omega arith
 
-answer_short : (x : Answered) → Sized x → length (joined (answer_runs (told x))) ≤ 28
-answer_short Accepted h = omega arith
-answer_short (Total t) h = simp length-append (omega (arith, number_short t h))
-answer_short (Refused n) h = simp length-append (omega (arith, refusal_short n h))
+answer_short : (x : Result (Option ℕ) Refusal) → Sized x → length (joined (answer_runs (told x))) ≤ 28
+answer_short (Ok None) h = omega arith
+answer_short (Ok (Some t)) h = simp length-append (omega (arith, number_short t h))
+answer_short (Err r) h = simp length-append (omega (arith, refusal_short r.0 h))
 
 pub record_line_fact : RecordLineFact
 record_line_fact p n a x hp hn hx =

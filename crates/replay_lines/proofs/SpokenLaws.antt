@@ -10,8 +10,9 @@ use native.Mathlib.Numerals.{add-one}
 use native.Mathlib.Omega.{arith}
 use Rattle.words.specs.Answers.{refused, gives, unless}
 use Rattle.words.proofs.AnswerLaws.{first_take, first_skip, first_end}
-use Rattle.text.specs.Page.{over, joined}
-use Rattle.text.proofs.PageLaws.{PutAll, Stands, stands_start}
+use Rattle.text.specs.declared.page.Page.{Page}
+use Rattle.text.specs.Page.{over, joined, Wrote}
+use Rattle.text.proofs.PageLaws.{wrote_first}
 use Rattle.text.proofs.LinesLaws.{few, Listed, listed_none, listed_next}
 use Rattle.energy_channel.specs.Channel.{closed, is_open}
 use Rattle.energy_channel.specs.Facts.{Ranged}
@@ -53,34 +54,37 @@ pub open_next : (cs : List Channel) (k : ℕ) → open_below cs (k + 1) ≡ open
 unfolding open_below
 open_next cs k = ap (open_below cs) (add-one k)
 
--- the lines of the channels below k stand on the page xs: the page is ps now, and `at` is the place after them
-abbrev pub Shown : List ℕ → List Channel → ℕ → List ℕ → ℕ → Type 0
-Shown xs cs k ps at = Listed xs 42 k (open_below cs k) ps at
+-- the lines of the channels below k were written on the page p, which is q then
+abbrev pub Shown : Page → List Channel → ℕ → Page → Type 0
+Shown p cs k q = Listed p 42 k (open_below cs k) q
 
-module _ (xs : List ℕ) (cs : List Channel) where
-  pub shown_none : Shown xs cs 0 xs 0
+module _ (p : Page) (cs : List Channel) (z : p.at ≡ 0) where
+  pub shown_none : Shown p cs 0 p
   unfolding open_below
-  shown_none = listed_none xs 42
+  shown_none = listed_none p 42 (omega arith)
 
-  pub shown_next : longest ≤ length xs → (k : ℕ) → k < 64 → {ps : List ℕ} {at : ℕ} → Shown xs cs k ps at → {r : ℕ} {rs : List ℕ}
-      → PutAll ps at r rs (channel_runs k (get_or cs k closed)) → Shown xs cs (k + 1) rs r
-  shown_next room k more so {r} {rs} calls =
-      subst (λ (ys : List ℕ). Listed xs 42 (k + 1) ys rs r) (sym (open_next cs k))
-      (listed_next xs 42 64 k room more so (channel_runs k (get_or cs k closed)) (channel_short k (get_or cs k closed) more) calls)
+  pub shown_next : longest ≤ length p.bytes.now → (k : ℕ) → k < 64 → {q : Page} → Shown p cs k q → {r : Page}
+      → Wrote q r (channel_runs k (get_or cs k closed)) → Shown p cs (k + 1) r
+  shown_next room k more so {r} call =
+      subst (λ (ys : List ℕ). Listed p 42 (k + 1) ys r) (sym (open_next cs k))
+      (listed_next p 42 64 k (omega arith) more so (channel_runs k (get_or cs k closed)) (channel_short k (get_or cs k closed) more) call)
 
-  -- ---- the whole text
-
-  pub lines_short : length xs < longest → (refused 25 ≡ open_of xs cs) × (xs ≡ open_left xs cs)
+  -- the whole text
+  pub lines_fit : longest ≤ length p.bytes.now → {k : ℕ} → k ≡ 64 → {q : Page} → Shown p cs k q
+      → (gives (q.at ∷ []) ≡ open_of p.bytes.now cs) × (q.bytes.now ≡ open_left p.bytes.now cs)
   unfolding open_of open_left
-  lines_short h =
-      let n : open_number xs ≡ 25 = first_take 25 [] (lt-ltb (length xs) longest h) in
-      (sym (ap (λ (m : ℕ). unless m (gives (length (open_text cs) ∷ []))) n), sym (ap (λ (m : ℕ). cond (eqb m 0) (over xs 0 (open_text cs)) xs) n))
-
-  pub lines_fit : longest ≤ length xs → {r : ℕ} {rs : List ℕ} → Stands xs 0 (open_text cs) rs r → (gives (r ∷ []) ≡ open_of xs cs) × (rs ≡ open_left xs cs)
-  unfolding open_of open_left
-  lines_fit h so =
+  lines_fit h e {q} so =
+      let xs : List ℕ = p.bytes.now in
+      let all : Shown p cs 64 q = subst (λ (k : ℕ). Shown p cs k q) e so in
       let n : open_number xs ≡ 0 = first_skip 25 [] (le-ltb (length xs) longest h) ∙ first_end in
-      let q = stands_start so in (
-        ap (λ (m : ℕ). gives (m ∷ [])) q.0 ∙ sym (ap (λ (m : ℕ). unless m (gives (length (open_text cs) ∷ []))) n),
-        q.1 ∙ sym (ap (λ (m : ℕ). cond (eqb m 0) (over xs 0 (open_text cs)) xs) n),
+      let w = wrote_first (open_text cs) z (omega (arith, all.short)) all.wrote in (
+        ap (λ (m : ℕ). gives (m ∷ [])) w.0 ∙ sym (ap (λ (m : ℕ). unless m (gives (length (open_text cs) ∷ []))) n),
+        w.1 ∙ sym (ap (λ (m : ℕ). cond (eqb m 0) (over xs 0 (open_text cs)) xs) n),
       )
+
+-- a page that is too short
+pub lines_short : (xs : List ℕ) (cs : List Channel) → length xs < longest → (refused 25 ≡ open_of xs cs) × (xs ≡ open_left xs cs)
+unfolding open_of open_left
+lines_short xs cs h =
+    let n : open_number xs ≡ 25 = first_take 25 [] (lt-ltb (length xs) longest h) in
+    (sym (ap (λ (m : ℕ). unless m (gives (length (open_text cs) ∷ []))) n), sym (ap (λ (m : ℕ). cond (eqb m 0) (over xs 0 (open_text cs)) xs) n))

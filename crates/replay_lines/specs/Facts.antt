@@ -1,13 +1,12 @@
 -- What is proved of the lines: those of open channels, for any 64 channels, and that of a record and of a stop. Each record is one theorem,
 -- to be read without its proof; proofs/OpenFact.antt and proofs/LineFits.antt have the proofs, under the same names with underscores.
 -- Assumes nothing.
-use Rattle.std.specs.Prelude.{ℕ, ◌+◌, ◌^◌, ◌≤◌, ◌<◌, ◌≡◌, true, false, List, [], ◌++◌, length, get_or, take, drop}
+use Rattle.std.specs.Prelude.{ℕ, ◌+◌, ◌^◌, ◌≤◌, ◌<◌, ◌≡◌, true, false, Option, Some, None, Result, Ok, Err, List, [], ◌++◌, length, get_or, take, drop}
+use Rattle.words.specs.declared.answers.Refusal.{Refusal}
 use Rattle.text.specs.Page.{joined}
 use Rattle.text.specs.Facts.{LineFits}
 use Rattle.energy_calls.specs.Calls.{told}
 use Rattle.energy_calls.specs.declared.calls.Call.{Call}
-use Rattle.energy_calls.specs.declared.calls.Answered.{Answered}
-use Rattle.energy_calls.specs.declared.calls.Answered.TheVariants.{Accepted, Total, Refused}
 use Rattle.energy_channel.specs.Channel.{closed, is_open}
 use Rattle.energy_channel.specs.declared.channel.Channel.{Channel}
 use Rattle.replay_lines.specs.Spoken.{record_runs, stop_runs, open_runs, open_below, open_text, longest, open_number, open_left}
@@ -25,14 +24,14 @@ pub record OpenFact (cs : List Channel) : Type 0 where
   pub keeps : (xs : List ℕ) → open_number xs ≡ 0 → drop (length (open_text cs)) (open_left xs cs) ≡ drop (length (open_text cs)) xs
 
 -- An answer as the code has it: a total of 64 bits, a refusal's number of 8.
-abbrev pub Sized : Answered → Type 0
-Sized Accepted = Unit {0}
-Sized (Total t) = t < 2 ^ 64
-Sized (Refused n) = n < 2 ^ 8
+abbrev pub Sized : Result (Option ℕ) Refusal → Type 0
+Sized (Ok None) = Unit {0}
+Sized (Ok (Some t)) = t < 2 ^ 64
+Sized (Err r) = r.0 < 2 ^ 8
 
 -- (LineFits, that a page so long shows the line whole: crate text, specs/Facts.) The line of a record has at most 76 bytes: its words and line feed 16, the place, the channel and the total 20 each.
 abbrev pub RecordLineFact : Type 0
-RecordLineFact = (p n : ℕ) (a : Call) (x : Answered) → p < 2 ^ 64 → n < 2 ^ 64 → Sized x → LineFits 76 (record_runs p n a (told x))
+RecordLineFact = (p n : ℕ) (a : Call) (x : Result (Option ℕ) Refusal) → p < 2 ^ 64 → n < 2 ^ 64 → Sized x → LineFits 76 (record_runs p n a (told x))
 
 -- The line of a stop has at most 29: its word and line feed 9, the place 20.
 abbrev pub StopLineFact : Type 0

@@ -1,15 +1,20 @@
 -- Two states, outcomes or results of a step that say the same are the same.
 -- Assumes nothing.
+use Rattle.std.specs.Prelude.{ℕ, Option, Result}
 use mathlib.Core.Path.{◌≡◌, refl, ap}
 use mathlib.Core.List.{List}
+use Rattle.words.specs.declared.answers.Refusal.{Refusal}
 use Rattle.words.proofs.AnswerLaws.{once}
+use Rattle.energy_calls.specs.Calls.{told as told_answer}
 use Rattle.energy_calls.proofs.Theorems as calls
 use Rattle.records.specs.Machine.{Reader}
-use Rattle.replay_steps.specs.Steps.{reader_of, Told, nothing_yet, replied, stops, told_of, Step, told}
+use Rattle.replay_steps.specs.Steps.{reader_of, Replied as Done, Step}
 use Rattle.replay_steps.specs.Facts.{ReaderOnce, OutcomeOnce, ToldOnce}
 use Rattle.energy_channel.specs.declared.channel.Channel.{Channel}
-use Rattle.energy_calls.specs.declared.calls.Answered.{Answered}
+use Rattle.energy_calls.specs.declared.calls.Call.{Call}
+use Rattle.replay_trace.specs.Trace.{call_on}
 use Rattle.replay_steps.specs.declared.steps.Replay.{Replay}
+use Rattle.replay_steps.specs.declared.steps.Reply.{Reply}
 use Rattle.replay_steps.specs.declared.steps.Outcome.{Outcome}
 use Rattle.replay_steps.specs.declared.steps.Outcome.TheVariants.{Nothing, Replied, Stopped}
 use Rattle.replay_steps.specs.declared.steps.Stepped.{Stepped}
@@ -21,23 +26,33 @@ pub reader_once : ReaderOnce
 unfolding unread
 reader_once = once reader_of unread (λ s. refl)
 
-untold : Told → Outcome
-untold nothing_yet = Nothing
-untold (replied x) = Replied (record { said = record { channel = x.said.channel; call = x.said.call }; answer = calls.untold x.answer })
-untold (stops place) = Stopped place
+replied_same : {n m : ℕ} {a b : Call} {p q : Result (Option ℕ) Refusal} → n ≡ m → a ≡ b → p ≡ q
+    → Replied (record { said = record { channel = n; call = a }; answer = p }) ≡ Replied (record { said = record { channel = m; call = b }; answer = q })
+replied_same e f g = cc
 
-untold_back : (a : Outcome) → untold (told_of a) ≡ a
-unfolding untold
-untold_back Nothing = refl
-untold_back (Replied x) = ap (λ (a : Answered). Replied (record { said = x.said; answer = a })) (calls.untold_back x.answer)
-untold_back (Stopped place) = refl
+abbrev reply_said : Reply → Done
+reply_said x = record { said = call_on x.said.channel x.said.call; answer = told_answer x.answer }
 
 pub outcome_once : OutcomeOnce
-outcome_once = once told_of untold untold_back
+outcome_once Nothing Nothing e = refl
+outcome_once Nothing (Replied y) e = cc
+outcome_once Nothing (Stopped b) e = cc
+outcome_once (Replied x) Nothing e = cc
+outcome_once (Replied x) (Replied y) e =
+    let r : reply_said x ≡ reply_said y = cc in
+    replied_same (ap (λ (d : Done). d.said.channel) r) (ap (λ (d : Done). d.said.call) r) (calls.told_once x.answer y.answer (ap (λ (d : Done). d.answer) r))
+outcome_once (Replied x) (Stopped b) e = cc
+outcome_once (Stopped a) Nothing e = cc
+outcome_once (Stopped a) (Replied y) e = cc
+outcome_once (Stopped a) (Stopped b) e = cc
 
-unstepped : Step → Stepped
-unstepped s = record { state = unread s.state; used = s.used; outcome = untold s.outcome }
+stepped_same : {s t : Replay} {n m : ℕ} {o p : Outcome} → s ≡ t → n ≡ m → o ≡ p
+    → ◌≡◌ {A = Stepped} (record { state = s; used = n; outcome = o }) (record { state = t; used = m; outcome = p })
+stepped_same e f g = cc
 
 pub told_once : ToldOnce
-unfolding unstepped unread
-told_once = once told unstepped (λ r. ap (λ (o : Outcome). record { state = r.state; used = r.used; outcome = o }) (untold_back r.outcome))
+told_once x y e =
+    stepped_same
+    (reader_once x.state y.state (ap (λ (s : Step). s.state) e))
+    (ap (λ (s : Step). s.used) e)
+    (outcome_once x.outcome y.outcome (ap (λ (s : Step). s.outcome) e))

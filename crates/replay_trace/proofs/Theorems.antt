@@ -1,5 +1,6 @@
 -- The theorems of specs/Facts, each under its name. Assumes nothing.
 use Prim.Native.Nat.{ℕ, ◌≤◌, ◌<◌}
+use Rattle.std.specs.Prelude.{Option, Some, None}
 use mathlib.Core.Path.{◌≡◌, refl, sym, ap, ◌∙◌}
 use mathlib.Core.Bool.{Bool, true, false, cond}
 use mathlib.Core.List.{List, [], ◌∷◌, ◌++◌}
@@ -19,7 +20,7 @@ use Rattle.records.specs.Partial.{rule_of, length_of}
 use Rattle.records.specs.Facts.{IsRecord}
 use Rattle.records_body.specs.Body.{numbers_at}
 use Rattle.energy_hall.specs.Hall.{Named}
-use Rattle.replay_trace.specs.declared.trace.Meaning.{Meaning}
+use Rattle.replay_trace.specs.declared.trace.Said.{Said}
 use Rattle.replay_trace.specs.Trace.{row_of, lengths, Says, nothing, says, told, says_of, bytes_of, unsaid, write_tests, write_number, write_of, written}
 use Rattle.replay_trace.specs.Facts.{ToldOnce, LengthsAre, CallFits, Sayable, CallTrips, RecordTrips, RecordWriteFact}
 use Rattle.replay_trace.proofs.TraceLaws as laws
@@ -27,17 +28,17 @@ use Rattle.replay_trace.proofs.TraceLaws.{kind_in, says_record}
 use Rattle.replay_trace.proofs.WriteLaws.{length_bytes, refuses_unsaid, refuses_short, takes}
 use Rattle.replay_trace.proofs.TraceTrips.{bytes_long, bytes_read, bytes_bytes, kind_known, meant_some, says_inside, says_back, bytes_once, old_kinds}
 
-untold : Says → Meaning
-untold nothing = Meaning.Nothing
-untold (says x) = Meaning.Says (record { channel = x.channel; call = x.call })
+untold : Says → Option Said
+untold nothing = None
+untold (says x) = Some (record { channel = x.channel; call = x.call })
 
 pub told_once : ToldOnce
 unfolding untold
 told_once = once told untold back
   where
-    back : (a : Meaning) → untold (told a) ≡ a
-    back Meaning.Nothing = refl
-    back (Meaning.Says x) = refl
+    back : (a : Option Said) → untold (told a) ≡ a
+    back None = refl
+    back (Some x) = refl
 
 pub lengths_are : LengthsAre
 lengths_are = laws.lengths_are

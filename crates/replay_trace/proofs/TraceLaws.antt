@@ -8,12 +8,13 @@ use native.Mathlib.Omega.{arith}
 use borrow.Author.Tests.{eq-eqb, ne_eqb}
 use lib.Dec.{eqb}
 use lib.ListN.{length, get_or}
-use Rattle.words.specs.Bytes.{number_at}
-use Rattle.words.proofs.NumberLaws.{number_one}
+use Rattle.std.specs.Prelude.{Some, None}
+use Rattle.std.specs.List.{slice_get}
+use Rattle.std.proofs.lemmas.Option.{get_or_from_slice_get}
 use Rattle.records.specs.Partial.{length_of}
 use Rattle.records_body.specs.Body.{size, extent, numbers_at}
 use Rattle.records_body.specs.Facts.{Fit}
-use Rattle.replay_trace.specs.Trace.{row, row_of, lengths, nothing, meant, says_of}
+use Rattle.replay_trace.specs.Trace.{row_of, lengths, nothing, meant, says_of}
 
 -- ---- the table
 
@@ -29,21 +30,6 @@ lengths_are = refl
 pub data Strange : ℕ → Type 0 where
   nought : Strange 0
   further : (k : ℕ) → Strange (suc (suc (suc (suc (suc (suc (suc (suc k))))))))
-
-pub strange : (k : ℕ) → k ≢ 1 → k ≢ 2 → k ≢ 3 → k ≢ 4 → k ≢ 5 → k ≢ 6 → k ≢ 7 → Strange k
-strange zero a b c d e f g = nought
-strange (suc zero) a b c d e f g = absurd (a refl)
-strange (suc (suc zero)) a b c d e f g = absurd (b refl)
-strange (suc (suc (suc zero))) a b c d e f g = absurd (c refl)
-strange (suc (suc (suc (suc zero)))) a b c d e f g = absurd (d refl)
-strange (suc (suc (suc (suc (suc zero))))) a b c d e f g = absurd (e refl)
-strange (suc (suc (suc (suc (suc (suc zero)))))) a b c d e f g = absurd (f refl)
-strange (suc (suc (suc (suc (suc (suc (suc zero))))))) a b c d e f g = absurd (g refl)
-strange (suc (suc (suc (suc (suc (suc (suc (suc k)))))))) a b c d e f g = further k
-
-pub row_none : {k : ℕ} → Strange k → row [] ≡ row_of k
-row_none nought = refl
-row_none (further k) = refl
 
 -- a record's length by it
 pub length_by : (k n : ℕ) → n ≡ length_of lent k → n ≡ length_of lengths k
@@ -73,9 +59,9 @@ module _ (r : List ℕ) where
   says_record h = ap (λ (b : Bool). cond b (meant kind_in (numbers_at (row_of kind_in) r 1)) nothing) (eq-eqb (length_of lengths kind_in) (length r) h)
 
   -- the same, where k is the kind as the code has it, and n the bytes of its record
-  module _ {k n : ℕ} (first : k ≡ number_at r 0 1) (many : n ≡ length_of lengths k) where
+  module _ {k n : ℕ} (first : slice_get r 0 ≡ Some k) (many : n ≡ length_of lengths k) where
     kind : k ≡ kind_in
-    kind = first ∙ number_one r 0
+    kind = sym (get_or_from_slice_get r 0 k 0 first)
 
     length_said : n ≡ length_of lengths kind_in
     length_said = many ∙ ap (length_of lengths) kind
@@ -85,6 +71,12 @@ module _ (r : List ℕ) where
 
     pub says_whole : n ≡ length r → meant k (numbers_at (row_of k) r 1) ≡ says_of r
     says_whole h = ap (λ (j : ℕ). meant j (numbers_at (row_of j) r 1)) kind ∙ sym (says_record (sym length_said ∙ h))
+
+-- no byte says no kind
+pub says_empty : (r : List ℕ) → slice_get r 0 ≡ None → nothing ≡ says_of r
+unfolding says_of length_of meant extent size
+says_empty [] e = refl
+says_empty (x ∷ xs) e = cc
 
 -- numbers that fit their widths, one by one
 pub fit_at : (ws vs : List ℕ) → Fit ws vs → (i : ℕ) → get_or vs i 0 < 256 ^ size (get_or ws i 0)

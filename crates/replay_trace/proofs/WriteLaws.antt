@@ -11,7 +11,7 @@ use lib.Dec.{ltb}
 use lib.ListN.{length, set, drop}
 use Rattle.words.specs.Answers.{refused, gives}
 use Rattle.words.proofs.AnswerLaws.{first_skip, first_take, first_end}
-use Rattle.words.proofs.TestLaws.{or_take, or_skip, or_neither}
+use Rattle.words.proofs.TestLaws.{or_skip, or_neither}
 use Rattle.records.specs.Partial.{length_of}
 use Rattle.records_body.specs.Body.{size, extent, stored_numbers, body_of}
 use Rattle.records_body.proofs.BodyTrips.{length_body, stores_whole}
@@ -52,10 +52,6 @@ record_long Ask e = absurd (false≢true (sym e))
 -- ---- which calls have none
 
 module _ (x : Named) where
-  pub unsaid_far : 255 < x.channel → true ≡ unsaid x
-  unfolding unsaid
-  unsaid_far h = sym (or_take (unsaid_call x.call) (lt-ltb 255 x.channel h))
-
   pub unsaid_near : x.channel ≤ 255 → unsaid_call x.call ≡ unsaid x
   unfolding unsaid
   unsaid_near h = sym (or_skip (unsaid_call x.call) (le-ltb 255 x.channel h))

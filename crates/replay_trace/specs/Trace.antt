@@ -6,7 +6,7 @@
 --   length_by ws         the bytes of a record, its kind's own among them; 0 where there is no such kind
 --   lengths             the table of kinds and lengths
 --   call_on n a          the call a on channel n
---   Says                a call on a channel, or nothing;   told   what each case of the code's enum says
+--   Says                a call on a channel, or nothing;   told   what each case of the code's answer says
 --   opening_in vs, reading_in vs   the opening, or what is seen at a reading or a resumption, in the numbers vs of a body
 --   meant k vs          what kind k with the numbers vs says
 --   says_of r            what the bytes r say: the call of a whole record, nothing where they are none
@@ -18,7 +18,7 @@
 --   write_of s x         that refusal, or how many bytes were written
 --   written s x         what s holds then: the record, and the rest as it was; all as it was where it is refused
 -- Assumes nothing.
-use Rattle.std.specs.Prelude.{ℕ, ◌+◌, Bool, true, false, cond, ◌||◌, List, [], ◌∷◌, ◌++◌, map, ltb, eqb, length, get_or, take, drop, replicate}
+use Rattle.std.specs.Prelude.{ℕ, ◌+◌, Bool, true, false, cond, ◌||◌, List, [], ◌∷◌, ◌++◌, map, ltb, eqb, length, get_or, take, drop, replicate, Option, Some, None}
 use Rattle.words.specs.Answers.{Answer, gives, unless, first}
 use Rattle.records.specs.Partial.{length_of}
 use Rattle.records_body.specs.Body.{extent, numbers_at, body_of}
@@ -28,7 +28,7 @@ use Rattle.energy_calls.specs.declared.calls.Opening.{Opening}
 use Rattle.energy_calls.specs.declared.calls.Reading.{Reading}
 use Rattle.energy_calls.specs.declared.calls.Call.{Call}
 use Rattle.energy_calls.specs.declared.calls.Call.TheVariants.{Open, Read, Resume, Close, Ask}
-use Rattle.replay_trace.specs.declared.trace.Meaning.{Meaning}
+use Rattle.replay_trace.specs.declared.trace.Said.{Said}
 
 -- ---- the table
 
@@ -68,9 +68,9 @@ pub data Says : Type 0 where
   nothing : Says
   says : Named → Says
 
-abbrev pub told : Meaning → Says
-told Meaning.Nothing = nothing
-told (Meaning.Says x) = says (call_on x.channel x.call)
+abbrev pub told : Option Said → Says
+told None = nothing
+told (Some x) = says (call_on x.channel x.call)
 
 -- the boot number comes last; in an old kind's row it has no width, and a number of no width is 0
 abbrev pub opening_in : List ℕ → Opening

@@ -1,76 +1,71 @@
 // The end of a line that says what came: a refusal, that something was taken, a number, a register's content, a place. Each is put on a
-// lent page from place `at` on, and the place after it is given.
+// page from its place on.
 ghost use Rattle.std.specs.Prelude.{◌≡◌};
 ghost use Rattle.words.specs.Told as words;
+ghost use Rattle.words.specs.Told.{refused_in};
 ghost use Rattle.capture.specs.Told.{told};
-ghost use Rattle.text.specs.Page.{over_all, after_all};
+ghost use Rattle.text.specs.Page.{Wrote};
 ghost use Rattle.report.specs.Endings.{refusal_runs, outcome_runs, value_runs, content_runs, place_runs};
 
-use capture::places::Found;
-use text::numerals::{labelled, labelled_hex};
-use text::page::put;
-use words::answers::Value;
+use capture::places::Place;
+use text::page::Page;
+use words::answers::Refusal;
 
-pub fn refusal(page: &mut [u8], at: usize, n: u8) -> usize
-    ensures answer { result ≡ after_all page.old at (refusal_runs n) }
-    ensures kept { page.new ≡ over_all page.old at (refusal_runs n) }
+pub fn refusal(page: &mut Page, refusal: Refusal)
+    ensures wrote { Wrote page.old page.new (refusal_runs refusal.0) }
 {
-    let a = labelled(page, at, b": refused ", n as u64);
-    put(page, a, b"\n")
+    page.labelled(b": refused ", u64::from(refusal.0));
+    page.put(b"\n");
 }
 
-// What came of a call that answers with the number alone: 0 is no refusal.
-pub fn outcome(page: &mut [u8], at: usize, n: u8) -> usize
-    ensures answer { result ≡ after_all page.old at (outcome_runs n) }
-    ensures kept { page.new ≡ over_all page.old at (outcome_runs n) }
+// What came of a call that gives nothing: the number 0 is no refusal.
+pub fn outcome(page: &mut Page, came: Result<(), Refusal>)
+    ensures wrote { Wrote page.old page.new (outcome_runs (refused_in came)) }
 {
-    if n == 0 {
-        return put(page, at, b": taken\n");
+    match came {
+        Ok(()) | Err(Refusal(0)) => page.put(b": taken\n"),
+        Err(r) => refusal(page, r),
     }
-    refusal(page, at, n)
 }
 
 // A number in decimal.
-pub fn value(page: &mut [u8], at: usize, came: Value) -> usize
-    ensures answer { result ≡ after_all page.old at (value_runs (words.told came)) }
-    ensures kept { page.new ≡ over_all page.old at (value_runs (words.told came)) }
+pub fn value(page: &mut Page, came: Result<u64, Refusal>)
+    ensures wrote { Wrote page.old page.new (value_runs (words.told came)) }
 {
     match came {
-        Value::Is(x) => {
-            let a = labelled(page, at, b": ", x);
-            put(page, a, b"\n")
+        Ok(x) => {
+            page.labelled(b": ", x);
+            page.put(b"\n");
         }
-        Value::Refused(n) => refusal(page, at, n),
+        Err(r) => refusal(page, r),
     }
 }
 
 // A register's content in hexadecimal.
-pub fn content(page: &mut [u8], at: usize, came: Value) -> usize
-    ensures answer { result ≡ after_all page.old at (content_runs (words.told came)) }
-    ensures kept { page.new ≡ over_all page.old at (content_runs (words.told came)) }
+pub fn content(page: &mut Page, came: Result<u64, Refusal>)
+    ensures wrote { Wrote page.old page.new (content_runs (words.told came)) }
 {
     match came {
-        Value::Is(x) => {
-            let a = labelled_hex(page, at, b": 0x", x);
-            put(page, a, b"\n")
+        Ok(x) => {
+            page.labelled_hex(b": 0x", x);
+            page.put(b"\n");
         }
-        Value::Refused(n) => refusal(page, at, n),
+        Err(r) => refusal(page, r),
     }
 }
 
 // A place: BAR number, start, how many pieces of how many bytes.
-pub fn place(page: &mut [u8], at: usize, found: Found) -> usize
-    ensures answer { result ≡ after_all page.old at (place_runs (told found)) }
-    ensures kept { page.new ≡ over_all page.old at (place_runs (told found)) }
+pub fn place(page: &mut Page, found: Result<Place, Refusal>)
+    ensures wrote { Wrote page.old page.new (place_runs (told found)) }
 {
     match found {
-        Found::At(p) => {
-            let a = labelled(page, at, b": BAR ", p.bir as u64);
-            let b = labelled(page, a, b" at ", p.start as u64);
-            let c = labelled(page, b, b", ", p.count);
-            let d = labelled(page, c, b" of ", p.size as u64);
-            put(page, d, b" bytes\n")
+        Ok(p) => {
+            page.labelled(b": BAR ", u64::from(p.bir));
+            page.labelled(b" at ", p.start as u64);
+            page.labelled(b", ", p.count);
+            page.labelled(b" of ", p.size as u64);
+            page.put(b" bytes\n");
         }
-        Found::Refused(n) => refusal(page, at, n),
+        Err(r) => refusal(page, r),
     }
 }

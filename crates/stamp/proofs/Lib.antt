@@ -1,3 +1,4 @@
+pub mod SamePage
 pub mod Unique
 pub mod UniqueUncore
 pub mod UniqueReasons
@@ -6,3 +7,4 @@ pub mod Worked
 pub mod Roads
 pub mod Dummies
 pub mod Uncore
+pub mod Kept

@@ -1,6 +1,7 @@
 -- The records of specs/Unique: where a contract is an equation two results are equal at once, and where it says what an enum tells, since
 -- that is injective. Assumes nothing.
-use mathlib.Core.Path.{sym, ◌∙◌}
+use mathlib.Core.Path.{sym, ap, ◌∙◌}
+use Rattle.words.specs.Told.{passes}
 use Rattle.words.proofs.Told as words
 use Rattle.tpmi_structure.proofs.Theorems as structure
 use Rattle.tpmi_walk.proofs.Told as walk
@@ -16,12 +17,13 @@ use Rattle.energy_hall.proofs.Theorems as energy
 use Rattle.replay_trace.proofs.Theorems as trace
 use Rattle.replay_steps.proofs.Told as steps
 use Rattle.sweep_readings.proofs.Theorems as sweeps
+use Rattle.stamp.proofs.SamePage.{same_page}
 use Rattle.stamp.specs.Unique.{WordsUnique, ListInputUnique, StoresUnique, TextUnique, FieldsUnique, CaptureUnique, ReportUnique, EnergyCallsUnique, EnergyChannelUnique, TpmiStructureUnique, RaplDomainsUnique, TpmiEntriesUnique, RaplUnitsUnique, TpmiBanksUnique, EnergyHallUnique, TpmiWalkUnique, RaplWindowsUnique, RaplRegistersUnique, RaplLimitsUnique, TpmiDiscoveryUnique, RaplPermitsUnique, TpmiFeaturesUnique, RaplChainsUnique, RaplLookupsUnique, TpmiCountsUnique, TpmiRegistersUnique, TpmiStoreUnique, RaplWritesUnique, ListLinesUnique, ListOutputUnique, RecordsUnique, RecordsBodyUnique, ReplayTraceUnique, ReplayStepsUnique, ReplayLinesUnique, SweepReadingsUnique, SweepLentUnique}
 
 pub words_unique : WordsUnique
 words_unique =
     record {
-      number_of = λ κs a x y s t p q. p ∙ sym q;
+      number_of = λ T l c g d κs a x y s t p q. p ∙ sym q;
       u8_at = λ κs a x y s t p q. p ∙ sym q;
       u16_at = λ κs a x y s t p q. p ∙ sym q;
       u32_at = λ κs a x y s t p q. p ∙ sym q;
@@ -49,17 +51,12 @@ stores_unique =
 pub text_unique : TextUnique
 text_unique =
     record {
-      put = λ κs a x y s t p q. p.0 ∙ sym q.0;
-      put_kept = λ κs a x y s t p q. p.1 ∙ sym q.1;
+      put = λ κs a x y s t p q. same_page p q;
       shown = λ κs a x y s t p q. p ∙ sym q;
-      decimal = λ κs a x y s t p q. p.0 ∙ sym q.0;
-      decimal_kept = λ κs a x y s t p q. p.1 ∙ sym q.1;
-      hex = λ κs a x y s t p q. p.0 ∙ sym q.0;
-      hex_kept = λ κs a x y s t p q. p.1 ∙ sym q.1;
-      labelled = λ κs a x y s t p q. p.0 ∙ sym q.0;
-      labelled_kept = λ κs a x y s t p q. p.1 ∙ sym q.1;
-      labelled_hex = λ κs a x y s t p q. p.0 ∙ sym q.0;
-      labelled_hex_kept = λ κs a x y s t p q. p.1 ∙ sym q.1;
+      decimal = λ κs a x y s t p q. same_page p q;
+      hex = λ κs a x y s t p q. same_page p q;
+      labelled = λ κs a x y s t p q. same_page p q;
+      labelled_hex = λ κs a x y s t p q. same_page p q;
     }
 
 pub fields_unique : FieldsUnique
@@ -73,24 +70,18 @@ fields_unique =
 pub capture_unique : CaptureUnique
 capture_unique =
     record {
-      number_of = λ κs a x y s t p q. p ∙ sym q;
-      bar_of = λ κs a x y s t p q. p ∙ sym q;
-      part_of = λ κs a x y s t p q. p ∙ sym q;
+      bar = λ κs a x y s t p q. p ∙ sym q;
+      part = λ κs a x y s t p q. p ∙ sym q;
     }
 
 pub report_unique : ReportUnique
 report_unique =
     record {
-      refusal = λ κs a x y s t p q. p.0 ∙ sym q.0;
-      refusal_kept = λ κs a x y s t p q. p.1 ∙ sym q.1;
-      outcome = λ κs a x y s t p q. p.0 ∙ sym q.0;
-      outcome_kept = λ κs a x y s t p q. p.1 ∙ sym q.1;
-      value = λ κs a x y s t p q. p.0 ∙ sym q.0;
-      value_kept = λ κs a x y s t p q. p.1 ∙ sym q.1;
-      content = λ κs a x y s t p q. p.0 ∙ sym q.0;
-      content_kept = λ κs a x y s t p q. p.1 ∙ sym q.1;
-      place = λ κs a x y s t p q. p.0 ∙ sym q.0;
-      place_kept = λ κs a x y s t p q. p.1 ∙ sym q.1;
+      refusal = λ κs a x y s t p q. same_page p q;
+      outcome = λ κs a x y s t p q. same_page p q;
+      value = λ κs a x y s t p q. same_page p q;
+      content = λ κs a x y s t p q. same_page p q;
+      place = λ κs a x y s t p q. same_page p q;
     }
 
 pub energy_calls_unique : EnergyCallsUnique
@@ -99,7 +90,6 @@ energy_calls_unique =
       count_of = λ κs a x y s t p q. p ∙ sym q;
       reading_of = λ κs a x y s t p q. p ∙ sym q;
       opening_of = λ κs a x y s t p q. p ∙ sym q;
-      number_of = λ κs a x y s t p q. p ∙ sym q;
     }
 
 pub energy_channel_unique : EnergyChannelUnique
@@ -114,10 +104,9 @@ energy_channel_unique =
 pub tpmi_structure_unique : TpmiStructureUnique
 tpmi_structure_unique =
     record {
-      number_of = λ κs a x y s t p q. p ∙ sym q;
       vsec_at = λ κs a x y s t p q. p ∙ sym q;
       read_call = λ κs a x y s t p q. structure.told_once x y (p ∙ sym q);
-      write_call = λ κs a x y s t p q. p.0 ∙ sym q.0;
+      write_call = λ κs a x y s t p q. words.done_once x y (p.0 ∙ sym q.0);
       write_call_kept = λ κs a x y s t p q. p.1 ∙ sym q.1;
       fixed_wrong = λ κs a x y s t p q. p ∙ sym q;
     }
@@ -126,17 +115,15 @@ pub rapl_domains_unique : RaplDomainsUnique
 rapl_domains_unique =
     record {
       read_call = λ κs a x y s t p q. p ∙ sym q;
-      number_of = λ κs a x y s t p q. p ∙ sym q;
       domain_in = λ κs a x y s t p q. domains.told_once x y (p ∙ sym q);
     }
 
 pub tpmi_entries_unique : TpmiEntriesUnique
 tpmi_entries_unique =
     record {
-      number_of = λ κs a x y s t p q. p ∙ sym q;
       entry_at = λ κs a x y s t p q. p ∙ sym q;
       read_call = λ κs a x y s t p q. entries.told_once x y (p ∙ sym q);
-      write_call = λ κs a x y s t p q. p.0 ∙ sym q.0;
+      write_call = λ κs a x y s t p q. words.done_once x y (p.0 ∙ sym q.0);
       write_call_kept = λ κs a x y s t p q. p.1 ∙ sym q.1;
     }
 
@@ -150,10 +137,10 @@ rapl_units_unique =
 pub tpmi_banks_unique : TpmiBanksUnique
 tpmi_banks_unique =
     record {
-      bank_in = λ κs a x y s t p q. p ∙ sym q;
+      bank_in = λ κs a x y s t p q. p.0 ∙ sym q.0;
       empty = λ κs a x y s t p q. p ∙ sym q;
-      fault = λ κs a x y s t p q. p ∙ sym q;
-      faults = λ κs a x y s t p q. p ∙ sym q;
+      fault = λ κs a x y s t p q. words.done_once x y (p ∙ sym q);
+      faults = λ κs a x y s t p q. words.done_once x y (p ∙ sym q);
     }
 
 pub energy_hall_unique : EnergyHallUnique
@@ -172,7 +159,6 @@ energy_hall_unique =
 pub tpmi_walk_unique : TpmiWalkUnique
 tpmi_walk_unique =
     record {
-      number_of = λ κs a x y s t p q. p ∙ sym q;
       walk = λ κs a x y s t p q. walk.told_once x y (p ∙ sym q);
     }
 
@@ -200,7 +186,6 @@ rapl_limits_unique =
 pub tpmi_discovery_unique : TpmiDiscoveryUnique
 tpmi_discovery_unique =
     record {
-      number_of = λ κs a x y s t p q. p ∙ sym q;
       locate = λ κs a x y s t p q. discovery.told_once x y (p ∙ sym q);
       discover = λ κs a x y s t p q. discovery.told_once x y (p ∙ sym q);
     }
@@ -209,7 +194,7 @@ pub rapl_permits_unique : RaplPermitsUnique
 rapl_permits_unique =
     record {
       span_of = λ κs a x y s t p q. p ∙ sym q;
-      refusal = λ κs a x y s t p q. p ∙ sym q;
+      refusal = λ κs a x y s t p q. words.done_once x y (p ∙ sym q);
     }
 
 pub tpmi_features_unique : TpmiFeaturesUnique
@@ -262,7 +247,7 @@ rapl_writes_unique =
     record {
       next_in = λ κs a x y s t p q. words.told_once x y (p ∙ sym q);
       next = λ κs a x y s t p q. words.told_once x y (p ∙ sym q);
-      write_call = λ κs a x y s t p q. p.0 ∙ sym q.0;
+      write_call = λ κs a x y s t p q. words.done_once x y (p.0 ∙ sym q.0);
       write_call_low = λ κs a x y s t p q. p.1.0 ∙ sym q.1.0;
       write_call_high = λ κs a x y s t p q. p.1.1 ∙ sym q.1.1;
     }
@@ -270,6 +255,7 @@ rapl_writes_unique =
 pub list_lines_unique : ListLinesUnique
 list_lines_unique =
     record {
+      unlisted_from = λ κs a x y s t p q. p ∙ sym q;
       number_of = λ κs a x y s t p q. p ∙ sym q;
       listing_of = λ κs a x y s t p q. listing.listing_told_once x y (p ∙ sym q);
       bar_in = λ κs a x y s t p q. p ∙ sym q;
@@ -319,10 +305,8 @@ replay_steps_unique =
 pub replay_lines_unique : ReplayLinesUnique
 replay_lines_unique =
     record {
-      record_line = λ κs a x y s t p q. p.0 ∙ sym q.0;
-      record_line_kept = λ κs a x y s t p q. p.1 ∙ sym q.1;
-      stop_line = λ κs a x y s t p q. p.0 ∙ sym q.0;
-      stop_line_kept = λ κs a x y s t p q. p.1 ∙ sym q.1;
+      record_line = λ κs a x y s t p q. same_page p q;
+      stop_line = λ κs a x y s t p q. same_page p q;
       open_lines = λ κs a x y s t p q. words.told_once x y (p.0 ∙ sym q.0);
       open_lines_kept = λ κs a x y s t p q. p.1 ∙ sym q.1;
     }
@@ -331,17 +315,17 @@ pub sweep_readings_unique : SweepReadingsUnique
 sweep_readings_unique =
     record {
       asked_of = λ κs a x y s t p q. p ∙ sym q;
-      unfit = λ κs a x y s t p q. p ∙ sym q;
-      sweep_array = λ κs a x y s t p q. sweeps.one_swept _ _ _ x y p.0 p.1 q.0 q.1;
-      sweep_array_kept = λ κs a x y s t p q. p.2 ∙ sym q.2;
+      unfit = λ κs a x y s t p q. words.done_once x y (p ∙ sym q);
+      sweep_array = λ κs a x y s t p q. sweeps.one_swept _ _ _ x y p.0.0 p.1 p.0.1 q.0.0 q.1 q.0.1;
+      sweep_array_kept = λ κs a x y s t p q. p.0.2 ∙ sym q.0.2;
     }
 
 pub sweep_lent_unique : SweepLentUnique
 sweep_lent_unique =
     record {
-      sweep = λ κs a x y s t p q. p.0 ∙ sym q.0;
-      sweep_channels = λ κs a x y s t p q. p.1 ∙ sym q.1;
-      sweep_answers = λ κs a x y s t p q. p.2 ∙ sym q.2;
-      sweep_own = λ κs a x y s t p q. sweeps.one_swept _ _ _ x y p.0 p.1 q.0 q.1;
-      sweep_own_kept = λ κs a x y s t p q. p.2 ∙ sym q.2;
+      sweep = λ κs a x y s t p q. words.done_once x y (p.1 ∙ ap passes (p.0.0 ∙ sym q.0.0) ∙ sym q.1);
+      sweep_channels = λ κs a x y s t p q. p.0.1 ∙ sym q.0.1;
+      sweep_answers = λ κs a x y s t p q. p.0.2 ∙ sym q.0.2;
+      sweep_own = λ κs a x y s t p q. sweeps.one_swept _ _ _ x y p.0.0 p.1 p.0.1 q.0.0 q.1 q.0.1;
+      sweep_own_kept = λ κs a x y s t p q. p.0.2 ∙ sym q.0.2;
     }

@@ -3,6 +3,7 @@ use mathlib.Core.Path.{sym, ◌∙◌}
 use Rattle.words.proofs.Told as words
 use Rattle.capture.proofs.Told as places
 use Rattle.reasons_mailbox.proofs.Told.{begun_once, told_once}
+use Rattle.stamp.proofs.SamePage.{same_page}
 use Rattle.stamp.specs.UniqueReasons.{ReasonsRegistersUnique, ReasonsLookupsUnique, ReasonsFoldUnique, ReasonsMailboxUnique, ReasonsLinesUnique}
 
 pub reasons_registers_unique : ReasonsRegistersUnique
@@ -42,10 +43,7 @@ reasons_mailbox_unique =
 pub reasons_lines_unique : ReasonsLinesUnique
 reasons_lines_unique =
     record {
-      reasons_line = λ κs a x y s t p q. p.0 ∙ sym q.0;
-      reasons_line_kept = λ κs a x y s t p q. p.1 ∙ sym q.1;
-      exchange_line = λ κs a x y s t p q. p.0 ∙ sym q.0;
-      exchange_line_kept = λ κs a x y s t p q. p.1 ∙ sym q.1;
-      test_line = λ κs a x y s t p q. p.0 ∙ sym q.0;
-      test_line_kept = λ κs a x y s t p q. p.1 ∙ sym q.1;
+      reasons_line = λ κs a x y s t p q. same_page p q;
+      exchange_line = λ κs a x y s t p q. same_page p q;
+      test_line = λ κs a x y s t p q. same_page p q;
     }

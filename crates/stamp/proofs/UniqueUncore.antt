@@ -2,6 +2,7 @@
 use mathlib.Core.Path.{sym, ◌∙◌}
 use Rattle.words.proofs.Told as words
 use Rattle.capture.proofs.Told as places
+use Rattle.stamp.proofs.SamePage.{same_page}
 use Rattle.stamp.specs.UniqueUncore.{UncoreRegistersUnique, UncoreControlsUnique, UncoreClustersUnique, UncoreLookupsUnique, UncorePermitsUnique, UncoreWritesUnique, UncoreLinesUnique}
 
 pub uncore_registers_unique : UncoreRegistersUnique
@@ -56,7 +57,7 @@ uncore_writes_unique =
     record {
       next_in = λ κs a x y s t p q. words.told_once x y (p ∙ sym q);
       next = λ κs a x y s t p q. words.told_once x y (p ∙ sym q);
-      write_call = λ κs a x y s t p q. p.0 ∙ sym q.0;
+      write_call = λ κs a x y s t p q. words.done_once x y (p.0 ∙ sym q.0);
       write_call_low = λ κs a x y s t p q. p.1.0 ∙ sym q.1.0;
       write_call_high = λ κs a x y s t p q. p.1.1 ∙ sym q.1.1;
     }
@@ -64,10 +65,7 @@ uncore_writes_unique =
 pub uncore_lines_unique : UncoreLinesUnique
 uncore_lines_unique =
     record {
-      instance_line = λ κs a x y s t p q. p.0 ∙ sym q.0;
-      instance_line_kept = λ κs a x y s t p q. p.1 ∙ sym q.1;
-      cluster_line = λ κs a x y s t p q. p.0 ∙ sym q.0;
-      cluster_line_kept = λ κs a x y s t p q. p.1 ∙ sym q.1;
-      refused_line = λ κs a x y s t p q. p.0 ∙ sym q.0;
-      refused_line_kept = λ κs a x y s t p q. p.1 ∙ sym q.1;
+      instance_line = λ κs a x y s t p q. same_page p q;
+      cluster_line = λ κs a x y s t p q. same_page p q;
+      refused_line = λ κs a x y s t p q. same_page p q;
     }

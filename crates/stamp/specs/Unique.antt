@@ -2,11 +2,16 @@
 -- contracts themselves are named here (`Post` of each function), not copies of them; of `sweep_lent`'s `sweep` alone a statement of our own, which
 -- is proved to be its contract. The one exception: of a part that is handed back its bytes are fixed, not the reference (docs/STAMP.md).
 --   Only P        the result is fixed: for all lifetimes κs and arguments a, and whatever the parameters are at exit
+--   held_by p     what a page holds, and its place
 --   Fixes out P   what `out` takes of the result and of the parameters at exit is fixed: the bytes of a part that is handed back, and what
 --                 was lent `&mut` as it is at exit (`s.0` is the first parameter at exit, `s.1.0` the second, ..)
 -- One record for each crate, one field for each public call; those of the uncore crates are in UniqueUncore.
 -- Assumes nothing.
-use Rattle.std.specs.Prelude.{◌≡◌}
+use denote.RattleType.{RattleType}
+use denote.Param.Laws.{Laws, IsCopy}
+use mir.Syntax.{Dict}
+use Rattle.std.specs.Prelude.{ℕ, ◌≡◌, List}
+use Rattle.std.specs.declared.clone.Clone as Clone
 use Rattle.words.proofs.answers.number_of.Reads as words-number-of
 use Rattle.words.proofs.bytes.u8_at.Reads as words-u8-at
 use Rattle.words.proofs.bytes.u16_at.Reads as words-u16-at
@@ -20,18 +25,18 @@ use Rattle.stores.proofs.numbers.store_u8.Reads as stores-store-u8
 use Rattle.stores.proofs.numbers.store_u16.Reads as stores-store-u16
 use Rattle.stores.proofs.numbers.store_u32.Reads as stores-store-u32
 use Rattle.stores.proofs.numbers.store_u64.Reads as stores-store-u64
-use Rattle.text.proofs.page.put.Reads as text_put
-use Rattle.text.proofs.page.shown.Reads as text-shown
-use Rattle.text.proofs.numerals.decimal.Reads as text-decimal
-use Rattle.text.proofs.numerals.hex.Reads as text-hex
-use Rattle.text.proofs.numerals.labelled.Reads as text-labelled
-use Rattle.text.proofs.numerals.labelled_hex.Reads as text-labelled-hex
+use Rattle.text.specs.declared.page.Page.{Page}
+use Rattle.text.proofs.page.Page.put.Reads as text_put
+use Rattle.text.proofs.page.Page.shown.Reads as text-shown
+use Rattle.text.proofs.page.Page.decimal.Reads as text-decimal
+use Rattle.text.proofs.page.Page.hex.Reads as text-hex
+use Rattle.text.proofs.page.Page.labelled.Reads as text-labelled
+use Rattle.text.proofs.page.Page.labelled_hex.Reads as text-labelled-hex
 use Rattle.fields.proofs.bits.field.Reads as fields-field
 use Rattle.fields.proofs.bits.with_field.Reads as fields-with-field
 use Rattle.fields.proofs.tables.word_of.Reads as fields-word-of
-use Rattle.capture.proofs.places.number_of.Reads as capture-number-of
-use Rattle.capture.proofs.places.bar_of.Reads as capture-bar-of
-use Rattle.capture.proofs.places.part_of.Reads as capture-part-of
+use Rattle.capture.proofs.places.Capture.bar.Reads as capture-bar
+use Rattle.capture.proofs.places.Capture.part.Reads as capture-part
 use Rattle.report.proofs.endings.refusal.Reads as report-refusal
 use Rattle.report.proofs.endings.outcome.Reads as report-outcome
 use Rattle.report.proofs.endings.value.Reads as report-value
@@ -39,30 +44,26 @@ use Rattle.report.proofs.endings.content.Reads as report-content
 use Rattle.report.proofs.endings.place.Reads as report-place
 use Rattle.energy_calls.proofs.calls.reading_of.Reads as energy-calls-reading-of
 use Rattle.energy_calls.proofs.calls.opening_of.Reads as energy-calls-opening-of
-use Rattle.energy_calls.proofs.calls.number_of.Reads as energy-calls-number-of
 use Rattle.energy_calls.proofs.calls.count_of.Reads as energy-calls-count-of
 use Rattle.energy_channel.proofs.channel.Channel.is_open.Reads as energy-channel-is-open
 use Rattle.energy_channel.proofs.channel.Channel.take.Reads as energy-channel-take
 use Rattle.energy_channel.proofs.channel.closed_channel.Reads as energy-channel-closed-channel
 use Rattle.energy_channel.proofs.channel.Channel.share.Reads as energy-channel-share
 use Rattle.tpmi_structure.proofs.structure.vsec_at.Reads as tpmi-structure-vsec-at
-use Rattle.tpmi_structure.proofs.structure.number_of.Reads as tpmi-structure-number-of
 use Rattle.tpmi_structure.proofs.structure.read.Reads as tpmi-structure-read
 use Rattle.tpmi_structure.proofs.structure.write.Reads as tpmi-structure-write
 use Rattle.tpmi_structure.proofs.structure.fixed_wrong.Reads as tpmi-structure-fixed-wrong
-use Rattle.rapl_domains.proofs.domains.read.Reads as rapl-domains-read
-use Rattle.rapl_domains.proofs.domains.number_of.Reads as rapl-domains-number-of
+use Rattle.rapl_domains.proofs.domains.HeaderFromU64.from.Reads as rapl-domains-read
 use Rattle.rapl_domains.proofs.domains.domain_in.Reads as rapl-domains-domain-in
 use Rattle.tpmi_entries.proofs.entry.entry_at.Reads as tpmi-entries-entry-at
-use Rattle.tpmi_entries.proofs.entry.number_of.Reads as tpmi-entries-number-of
 use Rattle.tpmi_entries.proofs.entry.read.Reads as tpmi-entries-read
 use Rattle.tpmi_entries.proofs.entry.write.Reads as tpmi-entries-write
-use Rattle.rapl_units.proofs.units.read.Reads as rapl-units-read
-use Rattle.rapl_units.proofs.units.write.Reads as rapl-units-write
-use Rattle.tpmi_banks.proofs.faults.bank_in.Reads as tpmi-banks-bank-in
+use Rattle.rapl_units.proofs.units.UnitsFromU64.from.Reads as rapl-units-read
+use Rattle.rapl_units.proofs.units.U64TryFromUnits.try_from.Reads as rapl-units-write
+use Rattle.tpmi_banks.proofs.faults.Entries.bank_in.Reads as tpmi-banks-bank-in
 use Rattle.tpmi_banks.proofs.faults.empty.Reads as tpmi-banks-empty
-use Rattle.tpmi_banks.proofs.faults.fault.Reads as tpmi-banks-fault
-use Rattle.tpmi_banks.proofs.faults.faults.Reads as tpmi-banks-faults
+use Rattle.tpmi_banks.proofs.faults.Entries.fault.Reads as tpmi-banks-fault
+use Rattle.tpmi_banks.proofs.faults.Entries.faults.Reads as tpmi-banks-faults
 use Rattle.energy_hall.proofs.hall.all_closed.Reads as energy-hall-all-closed
 use Rattle.energy_hall.proofs.hall.call_on.Reads as energy-hall-call-on
 use Rattle.energy_hall.proofs.hall.open.Reads as energy-hall-open
@@ -72,14 +73,12 @@ use Rattle.energy_hall.proofs.hall.close.Reads as energy-hall-close
 use Rattle.energy_hall.proofs.hall.total.Reads as energy-hall-total
 use Rattle.energy_hall.proofs.hall.hall_total.Reads as energy-hall-hall-total
 use Rattle.tpmi_walk.proofs.walk.walk.Reads as tpmi-walk-walk
-use Rattle.tpmi_walk.proofs.walk.number_of.Reads as tpmi-walk-number-of
 use Rattle.rapl_windows.proofs.windows.window_code.Reads as rapl-windows-window-code
 use Rattle.rapl_windows.proofs.windows.quarters.Reads as rapl-windows-quarters
 use Rattle.rapl_registers.proofs.contents.present.Reads as rapl-registers-present
 use Rattle.rapl_registers.proofs.contents.register_in.Reads as rapl-registers-register-in
-use Rattle.rapl_limits.proofs.limit.read.Reads as rapl-limits-read
-use Rattle.rapl_limits.proofs.limit.write.Reads as rapl-limits-write
-use Rattle.tpmi_discovery.proofs.table.number_of.Reads as tpmi-discovery-number-of
+use Rattle.rapl_limits.proofs.limit.LimitFromU64.from.Reads as rapl-limits-read
+use Rattle.rapl_limits.proofs.limit.U64TryFromLimit.try_from.Reads as rapl-limits-write
 use Rattle.tpmi_discovery.proofs.table.locate.Reads as tpmi-discovery-locate
 use Rattle.tpmi_discovery.proofs.discovery.discover.Reads as tpmi-discovery-discover
 use Rattle.rapl_permits.proofs.permits.span_of.Reads as rapl-permits-span-of
@@ -101,6 +100,7 @@ use Rattle.tpmi_store.proofs.store.store.Reads as tpmi-store-store
 use Rattle.rapl_writes.proofs.next.next_in.Reads as rapl-writes-next-in
 use Rattle.rapl_writes.proofs.next.next.Reads as rapl-writes-next
 use Rattle.rapl_writes.proofs.write.write.Reads as rapl-writes-write
+use Rattle.list_lines.proofs.listing.UnlistedFromRefusal.from.Reads as list-lines-unlisted-from
 use Rattle.list_lines.proofs.listing.number_of.Reads as list-lines-number-of
 use Rattle.list_lines.proofs.listing.listing_of.Reads as list-lines-listing-of
 use Rattle.list_lines.proofs.listing.bar_in.Reads as list-lines-bar-in
@@ -127,14 +127,25 @@ use Rattle.sweep_readings.proofs.swept.sweep_array.Reads as sweep-readings-sweep
 use Rattle.sweep_lent.proofs.lent.unread.sweep as sweep-lent-sweep
 use Rattle.sweep_lent.proofs.lent.sweep_own.Reads as sweep-lent-sweep-own
 
+-- what a page holds, and its place
+abbrev pub held_by : Page → List ℕ × ℕ
+held_by p = (p.bytes.now, p.at)
+
 abbrev pub Fixes : {L : Type 0} {A R E B : L → Type 0} → ((κs : L) → R κs → E κs → B κs) → ((κs : L) → A κs → R κs → E κs → Type 0) → Type 0
 Fixes {L} {A} {R} {E} out P = (κs : L) (a : A κs) (x y : R κs) (s t : E κs) → P κs a x s → P κs a y t → out κs x s ≡ out κs y t
 
 abbrev pub Only : {L : Type 0} {A R E : L → Type 0} → ((κs : L) → A κs → R κs → E κs → Type 0) → Type 0
 Only {L} {A} {R} {E} P = Fixes (λ κs x s. x) P
 
-pub record WordsUnique : Type 0 where
-  pub number_of : Only words-number-of.Post
+-- the same of a call that is generic over one type that can be copied, at each such type
+abbrev pub OnlyEach : {K : (T : RattleType) → Laws T → IsCopy T → Clone.Ghosts T.Denot → Dict → Type 0}
+    {A R E : (T : RattleType) (l : Laws T) (c : IsCopy T) (g : Clone.Ghosts T.Denot) (d : Dict) → K T l c g d → Type 0}
+    → ((T : RattleType) (l : Laws T) (c : IsCopy T) (g : Clone.Ghosts T.Denot) (d : Dict) (κs : K T l c g d) → A T l c g d κs → R T l c g d κs → E T l c g d κs → Type 0)
+    → Type 2
+OnlyEach P = (T : RattleType) (l : Laws T) (c : IsCopy T) (g : Clone.Ghosts T.Denot) (d : Dict) → Only (P T l c g d)
+
+pub record WordsUnique : Type 2 where
+  pub number_of : OnlyEach words-number-of.Post
   pub u8_at : Only words-u8-at.Post
   pub u16_at : Only words-u16-at.Post
   pub u32_at : Only words-u32-at.Post
@@ -153,17 +164,12 @@ pub record StoresUnique : Type 0 where
   pub store_u64 : Fixes (λ κs x s. s.0.now) stores-store-u64.Post
 
 pub record TextUnique : Type 0 where
-  pub put : Only text_put.Post
-  pub put_kept : Fixes (λ κs x s. s.0.now) text_put.Post
+  pub put : Fixes (λ κs x s. held_by s.0.now) text_put.Post
   pub shown : Fixes (λ κs x s. x.now) text-shown.Post
-  pub decimal : Only text-decimal.Post
-  pub decimal_kept : Fixes (λ κs x s. s.0.now) text-decimal.Post
-  pub hex : Only text-hex.Post
-  pub hex_kept : Fixes (λ κs x s. s.0.now) text-hex.Post
-  pub labelled : Only text-labelled.Post
-  pub labelled_kept : Fixes (λ κs x s. s.0.now) text-labelled.Post
-  pub labelled_hex : Only text-labelled-hex.Post
-  pub labelled_hex_kept : Fixes (λ κs x s. s.0.now) text-labelled-hex.Post
+  pub decimal : Fixes (λ κs x s. held_by s.0.now) text-decimal.Post
+  pub hex : Fixes (λ κs x s. held_by s.0.now) text-hex.Post
+  pub labelled : Fixes (λ κs x s. held_by s.0.now) text-labelled.Post
+  pub labelled_hex : Fixes (λ κs x s. held_by s.0.now) text-labelled-hex.Post
 
 pub record FieldsUnique : Type 0 where
   pub field : Only fields-field.Post
@@ -171,27 +177,20 @@ pub record FieldsUnique : Type 0 where
   pub word_of : Only fields-word-of.Post
 
 pub record CaptureUnique : Type 0 where
-  pub number_of : Only capture-number-of.Post
-  pub bar_of : Fixes (λ κs x s. x.now) capture-bar-of.Post
-  pub part_of : Fixes (λ κs x s. x.now) capture-part-of.Post
+  pub bar : Fixes (λ κs x s. x.now) capture-bar.Post
+  pub part : Fixes (λ κs x s. x.now) capture-part.Post
 
 pub record ReportUnique : Type 0 where
-  pub refusal : Only report-refusal.Post
-  pub refusal_kept : Fixes (λ κs x s. s.0.now) report-refusal.Post
-  pub outcome : Only report-outcome.Post
-  pub outcome_kept : Fixes (λ κs x s. s.0.now) report-outcome.Post
-  pub value : Only report-value.Post
-  pub value_kept : Fixes (λ κs x s. s.0.now) report-value.Post
-  pub content : Only report-content.Post
-  pub content_kept : Fixes (λ κs x s. s.0.now) report-content.Post
-  pub place : Only report-place.Post
-  pub place_kept : Fixes (λ κs x s. s.0.now) report-place.Post
+  pub refusal : Fixes (λ κs x s. held_by s.0.now) report-refusal.Post
+  pub outcome : Fixes (λ κs x s. held_by s.0.now) report-outcome.Post
+  pub value : Fixes (λ κs x s. held_by s.0.now) report-value.Post
+  pub content : Fixes (λ κs x s. held_by s.0.now) report-content.Post
+  pub place : Fixes (λ κs x s. held_by s.0.now) report-place.Post
 
 pub record EnergyCallsUnique : Type 0 where
   pub count_of : Only energy-calls-count-of.Post
   pub reading_of : Only energy-calls-reading-of.Post
   pub opening_of : Only energy-calls-opening-of.Post
-  pub number_of : Only energy-calls-number-of.Post
 
 pub record EnergyChannelUnique : Type 0 where
   pub is_open : Only energy-channel-is-open.Post
@@ -200,7 +199,6 @@ pub record EnergyChannelUnique : Type 0 where
   pub share : Only energy-channel-share.Post
 
 pub record TpmiStructureUnique : Type 0 where
-  pub number_of : Only tpmi-structure-number-of.Post
   pub vsec_at : Only tpmi-structure-vsec-at.Post
   pub read_call : Only tpmi-structure-read.Post
   pub write_call : Only tpmi-structure-write.Post
@@ -209,11 +207,9 @@ pub record TpmiStructureUnique : Type 0 where
 
 pub record RaplDomainsUnique : Type 0 where
   pub read_call : Only rapl-domains-read.Post
-  pub number_of : Only rapl-domains-number-of.Post
   pub domain_in : Only rapl-domains-domain-in.Post
 
 pub record TpmiEntriesUnique : Type 0 where
-  pub number_of : Only tpmi-entries-number-of.Post
   pub entry_at : Only tpmi-entries-entry-at.Post
   pub read_call : Only tpmi-entries-read.Post
   pub write_call : Only tpmi-entries-write.Post
@@ -240,7 +236,6 @@ pub record EnergyHallUnique : Type 0 where
   pub hall_total : Only energy-hall-hall-total.Post
 
 pub record TpmiWalkUnique : Type 0 where
-  pub number_of : Only tpmi-walk-number-of.Post
   pub walk : Only tpmi-walk-walk.Post
 
 pub record RaplWindowsUnique : Type 0 where
@@ -256,7 +251,6 @@ pub record RaplLimitsUnique : Type 0 where
   pub write_call : Only rapl-limits-write.Post
 
 pub record TpmiDiscoveryUnique : Type 0 where
-  pub number_of : Only tpmi-discovery-number-of.Post
   pub locate : Only tpmi-discovery-locate.Post
   pub discover : Only tpmi-discovery-discover.Post
 
@@ -299,6 +293,7 @@ pub record RaplWritesUnique : Type 0 where
   pub write_call_high : Fixes (λ κs x s. s.1.1.1.1.0.now) rapl-writes-write.Post
 
 pub record ListLinesUnique : Type 0 where
+  pub unlisted_from : Only list-lines-unlisted-from.Post
   pub number_of : Only list-lines-number-of.Post
   pub listing_of : Only list-lines-listing-of.Post
   pub bar_in : Fixes (λ κs x s. x.now) list-lines-bar-in.Post
@@ -330,10 +325,8 @@ pub record ReplayStepsUnique : Type 0 where
   pub ended : Only replay-steps-ended.Post
 
 pub record ReplayLinesUnique : Type 0 where
-  pub record_line : Only replay-lines-record-line.Post
-  pub record_line_kept : Fixes (λ κs x s. s.0.now) replay-lines-record-line.Post
-  pub stop_line : Only replay-lines-stop-line.Post
-  pub stop_line_kept : Fixes (λ κs x s. s.0.now) replay-lines-stop-line.Post
+  pub record_line : Fixes (λ κs x s. held_by s.0.now) replay-lines-record-line.Post
+  pub stop_line : Fixes (λ κs x s. held_by s.0.now) replay-lines-stop-line.Post
   pub open_lines : Only replay-lines-open-lines.Post
   pub open_lines_kept : Fixes (λ κs x s. s.0.now) replay-lines-open-lines.Post
 

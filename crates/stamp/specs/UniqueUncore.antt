@@ -1,18 +1,18 @@
 -- Uniqueness of the public calls of the uncore crates (document 02, request 2), as Unique says it of the others: one record for each crate,
 -- one field for each public call.
 -- Assumes nothing.
-use Rattle.uncore_registers.proofs.header.read.Reads as uncore-registers-header-read
-use Rattle.uncore_registers.proofs.header.write.Reads as uncore-registers-header-write
-use Rattle.uncore_registers.proofs.offsets.read.Reads as uncore-registers-offsets-read
-use Rattle.uncore_registers.proofs.offsets.write.Reads as uncore-registers-offsets-write
-use Rattle.uncore_registers.proofs.status.read.Reads as uncore-registers-status-read
-use Rattle.uncore_registers.proofs.status.write.Reads as uncore-registers-status-write
-use Rattle.uncore_controls.proofs.control.read.Reads as uncore-controls-control-read
-use Rattle.uncore_controls.proofs.control.write.Reads as uncore-controls-control-write
-use Rattle.uncore_controls.proofs.advanced1.read.Reads as uncore-controls-advanced1-read
-use Rattle.uncore_controls.proofs.advanced1.write.Reads as uncore-controls-advanced1-write
-use Rattle.uncore_controls.proofs.advanced2.read.Reads as uncore-controls-advanced2-read
-use Rattle.uncore_controls.proofs.advanced2.write.Reads as uncore-controls-advanced2-write
+use Rattle.uncore_registers.proofs.header.HeaderFromU64.from.Reads as uncore-registers-header-read
+use Rattle.uncore_registers.proofs.header.U64TryFromHeader.try_from.Reads as uncore-registers-header-write
+use Rattle.uncore_registers.proofs.offsets.OffsetsFromU64.from.Reads as uncore-registers-offsets-read
+use Rattle.uncore_registers.proofs.offsets.U64TryFromOffsets.try_from.Reads as uncore-registers-offsets-write
+use Rattle.uncore_registers.proofs.status.StatusFromU64.from.Reads as uncore-registers-status-read
+use Rattle.uncore_registers.proofs.status.U64TryFromStatus.try_from.Reads as uncore-registers-status-write
+use Rattle.uncore_controls.proofs.control.ControlFromU64.from.Reads as uncore-controls-control-read
+use Rattle.uncore_controls.proofs.control.U64TryFromControl.try_from.Reads as uncore-controls-control-write
+use Rattle.uncore_controls.proofs.advanced1.Advanced1FromU64.from.Reads as uncore-controls-advanced1-read
+use Rattle.uncore_controls.proofs.advanced1.U64TryFromAdvanced1.try_from.Reads as uncore-controls-advanced1-write
+use Rattle.uncore_controls.proofs.advanced2.Advanced2FromU64.from.Reads as uncore-controls-advanced2-read
+use Rattle.uncore_controls.proofs.advanced2.U64TryFromAdvanced2.try_from.Reads as uncore-controls-advanced2-write
 use Rattle.uncore_clusters.proofs.clusters.count_of.Reads as uncore-clusters-count-of
 use Rattle.uncore_clusters.proofs.clusters.clusters_in.Reads as uncore-clusters-clusters-in
 use Rattle.uncore_clusters.proofs.clusters.fabric_in.Reads as uncore-clusters-fabric-in
@@ -29,7 +29,7 @@ use Rattle.uncore_writes.proofs.control_write.write.Reads as uncore-writes-write
 use Rattle.uncore_lines.proofs.clock_lines.instance_line.Reads as uncore-lines-instance-line
 use Rattle.uncore_lines.proofs.clock_lines.cluster_line.Reads as uncore-lines-cluster-line
 use Rattle.uncore_lines.proofs.clock_lines.refused_line.Reads as uncore-lines-refused-line
-use Rattle.stamp.specs.Unique.{Only, Fixes}
+use Rattle.stamp.specs.Unique.{Only, Fixes, held_by}
 
 pub record UncoreRegistersUnique : Type 0 where
   pub header_read : Only uncore-registers-header-read.Post
@@ -71,9 +71,6 @@ pub record UncoreWritesUnique : Type 0 where
   pub write_call_high : Fixes (λ κs x s. s.1.1.1.1.0.now) uncore-writes-write.Post
 
 pub record UncoreLinesUnique : Type 0 where
-  pub instance_line : Only uncore-lines-instance-line.Post
-  pub instance_line_kept : Fixes (λ κs x s. s.0.now) uncore-lines-instance-line.Post
-  pub cluster_line : Only uncore-lines-cluster-line.Post
-  pub cluster_line_kept : Fixes (λ κs x s. s.0.now) uncore-lines-cluster-line.Post
-  pub refused_line : Only uncore-lines-refused-line.Post
-  pub refused_line_kept : Fixes (λ κs x s. s.0.now) uncore-lines-refused-line.Post
+  pub instance_line : Fixes (λ κs x s. held_by s.0.now) uncore-lines-instance-line.Post
+  pub cluster_line : Fixes (λ κs x s. held_by s.0.now) uncore-lines-cluster-line.Post
+  pub refused_line : Fixes (λ κs x s. held_by s.0.now) uncore-lines-refused-line.Post

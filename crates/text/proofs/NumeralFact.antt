@@ -14,7 +14,7 @@ use Rattle.words.specs.Facts.{IsLeast}
 use Rattle.words.proofs.BelowLaws.{least_here, is_least}
 use Rattle.text.specs.Numerals.{glyph_of, digit_of, digits, holds, places_of, numeral_of, read_on, read_as}
 use Rattle.text.specs.Facts.{NumeralFacts}
-use Rattle.text.proofs.NumeralLaws.{power_some, enough, digits_length}
+use Rattle.text.proofs.NumeralLaws.{power_some, enough, numeral_length}
 
 -- ---- a digit
 
@@ -115,7 +115,7 @@ module _ (b n : ℕ) (base : 1 < b) (most : b ≤ 16) (word : n < 2 ^ 64) where
 pub numeral_facts : NumeralFacts
 numeral_facts b n base most word =
     let few : 1 ≤ places_of b n = (places_least b n base most word).starts in
-    let long : length (numeral_of b n) ≡ places_of b n = digits_length b (places_of b n) n in
+    let long : length (numeral_of b n) ≡ places_of b n = numeral_length b n in
     record {
       reads = numeral_reads b n base most word;
       of_the_base = λ k l. digits_at b base (places_of b n) n k (omega arith);

@@ -9,7 +9,10 @@ use lib.ListN.{length, get_or, take, drop, take-append-drop, length-append, leng
 use lib.Seq.{length-take-le, take-length, drop-drop, take-append_seam, drop-append-add, get_or-append-add, get_or-take, get_or-drop}
 use native.Mathlib.Nat.{zero-add, add-zero, add_assoc}
 use native.Mathlib.Omega.{arith}
-use Rattle.text.specs.Page.{fits, over, after, over_all, after_all, joined}
+use borrow.Rule.Slice.Mut.{set_vals}
+use borrow.Rule.Slice.PartMut.{put_mid}
+use Rattle.text.specs.declared.page.Page.{Page}
+use Rattle.text.specs.Page.{fits, over, after, over_all, after_all, joined, Wrote}
 use Rattle.text.specs.Facts.{PutFact, RunsFact}
 
 module _ (xs : List ℕ) (at : ℕ) (ys : List ℕ) where
@@ -50,6 +53,13 @@ module _ (xs : List ℕ) (at : ℕ) (ys : List ℕ) where
       ap (λ (n : ℕ). take at xs ++ take n ys ++ drop (at + n) xs) (sym e)
       ∙ ap (λ (zs : List ℕ). take at xs ++ zs ++ drop (at + length ys) xs) (take-length ys)
       ∙ sym (over_fits (omega arith))
+
+  -- words copied into the part that they fill
+  pub copied : (k : ℕ) → k ≡ length ys → at + length ys ≤ length xs → put_mid at k xs ys ≡ over xs at ys
+  copied k e h =
+      ap (λ (zs : List ℕ). take at xs ++ (ys ++ zs)) (drop-drop k at xs ∙ ap (λ (m : ℕ). drop (at + m) xs) e)
+      ∙ sym (append_assoc (take at xs) ys (drop (at + length ys) xs))
+      ∙ sym (over_fits h)
 
 -- ---- what stands on a page then
 
@@ -152,25 +162,51 @@ runs_fact xs at (ys ∷ yss) =
           ∙ ap (λ (m : ℕ). at + m) (sym (length-append ys (joined yss)));
     }
 
--- ---- a text that grows
+-- ---- what a call writes on a page
 
--- the text ys stands on the page xs from place `at` on: the page is ps now, and m is the place after the text
-pub record Stands (xs : List ℕ) (at : ℕ) (ys ps : List ℕ) (m : ℕ) : Type 0 where
-  pub page : ps ≡ over xs at ys
-  pub place : m ≡ at + length ys
-
-pub stands_none : (xs : List ℕ) (at : ℕ) → at ≤ length xs → Stands xs at [] xs at
-stands_none xs at h = record { page = sym (over_nothing xs at h); place = sym (add-zero at) }
-
-module _ (xs : List ℕ) (at : ℕ) {ys ps : List ℕ} {m : ℕ} (so : Stands xs at ys ps m) (zs : List ℕ) (h : at + length (ys ++ zs) ≤ length xs) where
-  -- words that are known to fit, put after it
-  pub stands_next : {r : ℕ} {rs : List ℕ} → (r ≡ m + length zs) × (rs ≡ over ps m zs) → Stands xs at (ys ++ zs) rs r
-  stands_next q =
+module _ (p : Page) (ys : List ℕ) where
+  -- words that end inside the page, and words that do not
+  pub wrote_copied : (m : ℕ) → m ≡ p.at + length ys → m ≤ length p.bytes.now → {zs : List ℕ} → zs ≡ ys
+      → Wrote p (record { bytes = set_vals (put_mid p.at (m - p.at) p.bytes.now zs) p.bytes; at = m }) (ys ∷ [])
+  wrote_copied m e h {zs} f =
       record {
-        page = q.1 ∙ ap₂ (λ (us : List ℕ) (k : ℕ). over us k zs) so.page so.place ∙ then_words xs at ys zs h;
-        place = q.0 ∙ ap (λ (k : ℕ). k + length zs) so.place ∙ add_assoc at (length ys) (length zs) ∙ ap (λ (k : ℕ). at + k) (sym (length-append ys zs));
+        bytes = ap (put_mid p.at (m - p.at) p.bytes.now) f ∙ copied p.bytes.now p.at ys (m - p.at) (omega arith) (omega arith);
+        place = e ∙ sym (after_fits p.bytes.now p.at ys (omega arith));
+        same = refl;
       }
 
--- a text at the page's start
-pub stands_start : {xs ys ps : List ℕ} {m : ℕ} → Stands xs 0 ys ps m → (m ≡ length ys) × (ps ≡ over xs 0 ys)
-stands_start so = (so.place ∙ zero-add _, so.page)
+  pub wrote_none : length p.bytes.now < p.at + length ys → Wrote p p (ys ∷ [])
+  wrote_none h = record { bytes = sym (over_short p.bytes.now p.at ys h); place = sym (after_short p.bytes.now p.at ys h); same = refl }
+
+-- runs written after runs
+pub wrote_on : {p q r : Page} (yss zss : List (List ℕ)) → Wrote p q yss → Wrote q r zss → Wrote p r (yss ++ zss)
+wrote_on {p} yss zss a b =
+    let on = runs_on p.bytes.now p.at yss zss (a.place, a.bytes) (b.place, b.bytes) in
+    record { bytes = on.1; place = on.0; same = b.same ∙ a.same }
+
+-- runs that fit are one text
+pub wrote_joined : {p q : Page} (yss : List (List ℕ)) → p.at + length (joined yss) ≤ length p.bytes.now → Wrote p q yss → Wrote p q (joined yss ∷ [])
+wrote_joined {p} yss h w =
+    let f = runs_fact p.bytes.now p.at yss in
+    record {
+      bytes = w.bytes ∙ f.words h;
+      place = w.place ∙ f.place h ∙ sym (after_fits p.bytes.now p.at (joined yss) h);
+      same = w.same;
+    }
+
+-- nothing was written
+pub wrote_nothing : (p : Page) → p.at ≤ length p.bytes.now → Wrote p p ([] ∷ [])
+wrote_nothing p h =
+    record {
+      bytes = sym (over_nothing p.bytes.now p.at h);
+      place = sym (after_fits p.bytes.now p.at [] (omega arith) ∙ add-zero p.at);
+      same = refl;
+    }
+
+-- a text at the page's start: the place is how long it is
+pub wrote_first : {p q : Page} (ys : List ℕ) → p.at ≡ 0 → length ys ≤ length p.bytes.now → Wrote p q (ys ∷ [])
+    → (q.at ≡ length ys) × (q.bytes.now ≡ over p.bytes.now 0 ys)
+wrote_first {p} ys z h w = (
+  w.place ∙ after_fits p.bytes.now p.at ys (omega arith) ∙ ap (λ (m : ℕ). m + length ys) z ∙ zero-add (length ys),
+  w.bytes ∙ ap (λ (m : ℕ). over p.bytes.now m ys) z,
+)

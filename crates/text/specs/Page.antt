@@ -4,8 +4,10 @@
 --   after xs at ys   the place after them; `at` itself where they do not fit
 --   over_all, after_all    the same of runs of words, each where the one before it ended
 --   joined yss           the runs as one
+--   Wrote p q yss        the runs yss were put on the page p, which is q then: what it lends, the place, and that it lends the same
 -- Assumes nothing.
-use Rattle.std.specs.Prelude.{ℕ, ◌+◌, Bool, cond, List, [], ◌∷◌, ◌++◌, leb, length, take, drop}
+use Rattle.std.specs.Prelude.{ℕ, ◌+◌, ◌≡◌, Bool, cond, List, [], ◌∷◌, ◌++◌, leb, length, take, drop}
+use Rattle.text.specs.declared.page.Page.{Page}
 
 abbrev pub fits : List ℕ → ℕ → List ℕ → Bool
 fits xs at ys = leb (at + length ys) (length xs)
@@ -27,3 +29,8 @@ after_all xs at (ys ∷ yss) = after_all (over xs at ys) (after xs at ys) yss
 abbrev pub joined : List (List ℕ) → List ℕ
 joined [] = []
 joined (ys ∷ yss) = ys ++ joined yss
+
+pub record Wrote (p q : Page) (yss : List (List ℕ)) : Type 0 where
+  pub bytes : q.bytes.now ≡ over_all p.bytes.now p.at yss
+  pub place : q.at ≡ after_all p.bytes.now p.at yss
+  pub same : q.bytes.ghost_name ≡ p.bytes.ghost_name

@@ -1,33 +1,31 @@
 // Words put on a lent page, each at the place where the one before it ended. What does not fit is not written, and the place stays.
-ghost use Rattle.std.specs.Prelude.{◌≡◌, take};
-ghost use Rattle.text.specs.Page.{over, after};
+ghost use Rattle.std.specs.Prelude.{◌≡◌, [], ◌∷◌, take};
+ghost use Rattle.text.specs.Page.{Wrote};
 
-// The bytes `words` from place `at` on; the place after them.
-pub fn put(page: &mut [u8], at: usize, words: &[u8]) -> usize
-    ensures answer { result ≡ after page.old at words.now }
-    ensures kept { page.new ≡ over page.old at words.now }
-{
-    let many = words.len();
-    if page.len() < many {
-        return at;
-    }
-    if page.len() - many < at {
-        return at;
-    }
-    let mut i = 0;
-    while i < many {
-        page[at + i] = words[i];
-        i += 1;
-    }
-    at + many
+// A lent page, and the place at which the next words stand.
+#[derive(Drop)]
+pub struct Page<'a> {
+    pub bytes: &'a mut [u8],
+    pub at: usize,
 }
 
-// What stands before place `at`; all where there is less.
-pub fn shown(page: &[u8], at: usize) -> &[u8]
-    ensures part { result.now ≡ take at page.now }
-{
-    if page.len() < at {
-        return &page[0..];
+impl<'a> Page<'a> {
+    // The bytes `words` from the place on; the place is after them then.
+    #[tactic(auto, using(crate::proofs::PageLaws::wrote_copied))]
+    pub fn put(&mut self, words: &[u8])
+        ensures wrote { Wrote self.old self.new (words.now ∷ []) }
+    {
+        let end = self.at.saturating_add(words.len());
+        if end <= self.bytes.len() {
+            self.bytes[self.at..end].copy_from_slice(words);
+            self.at = end;
+        }
     }
-    &page[0..at]
+
+    // What stands before the place; all where there is less.
+    pub fn shown(&self) -> &[u8]
+        ensures part { result.now ≡ take self.now.at self.now.bytes.now }
+    {
+        self.bytes.get(..self.at).unwrap_or(self.bytes)
+    }
 }

@@ -10,6 +10,7 @@ mod powers;
 mod start;
 mod traces;
 
+use start::capture;
 use std::io;
 
 fn main(rt: HostRuntime) -> io::Result<()> {
@@ -19,10 +20,12 @@ fn main(rt: HostRuntime) -> io::Result<()> {
     start::set(&mut config, &mut high);
     start::bytes(&rt, &config)?;
     features::tables(&rt, &config, &high)?;
-    features::lookups(&rt, &config, &low, &high)?;
+    features::lookups(&rt, capture(&config, &low, &high))?;
     features::written(&rt, &mut low, &mut high)?;
-    powers::domains(&rt, &high)?;
-    powers::registers(&rt, &config, &low, &high)?;
+    powers::domains(&rt, capture(&config, &low, &high))?;
+    powers::registers(&rt, capture(&config, &low, &high))?;
+    meshes::clusters(&rt)?;
+    meshes::lookups(&rt, capture(&config, &low, &high))?;
     powers::write(&rt, &config, &mut low, &mut high)?;
     energies::channels(&rt)?;
     energies::sweeps(&rt)?;

@@ -1,10 +1,11 @@
 // The capture of the tour, and how it says a line.
+use capture::places::Capture;
 use fields::bits::field;
 use report::endings::value;
 use std::io;
 use stores::numbers::{store_u16, store_u64};
-use text::page::{put, shown};
-use words::answers::Value;
+use text::page::Page;
+use words::answers::{Refusal, number_of};
 use words::bytes::u16_at;
 
 // Vendor word, and at 0x100 the VSEC structure: 1 entry of 2 words, tBIR 1, table at 2,000. The entry: one instance of 32 words, 4 KiB from
@@ -18,22 +19,46 @@ pub(crate) fn set(config: &mut [u8], high: &mut [u8]) {
     store_u64(high, 6104, 0xA383);
 }
 
-pub(crate) fn say(rt: &impl Print, words: &[u8], came: Value) -> io::Result<()> {
-    let mut page = [0u8; 128];
-    let mut at = put(&mut page, 0, words);
-    at = value(&mut page, at, came);
-    rt.write_all(shown(&page, at))
+pub(crate) fn capture<'a>(config: &'a [u8], low: &'a [u8], high: &'a [u8]) -> Capture<'a> {
+    Capture {
+        config,
+        lo: 0,
+        low,
+        hi: 1,
+        high,
+    }
+}
+
+// A question, and the number that came. No ending has more than 23 bytes.
+pub(crate) fn say(rt: &impl Print, question: &str, came: Result<u64, Refusal>) -> io::Result<()> {
+    rt.print(question)?;
+    let mut bytes = [0u8; 23];
+    let mut page = Page {
+        bytes: &mut bytes,
+        at: 0,
+    };
+    value(&mut page, came);
+    rt.write_all(page.shown())
+}
+
+// A question after a refusal: its number, or 0.
+pub(crate) fn say_refusal<T: Copy>(
+    rt: &impl Print,
+    question: &str,
+    came: Result<T, Refusal>,
+) -> io::Result<()> {
+    say(rt, question, Ok(u64::from(number_of(came))))
 }
 
 pub(crate) fn bytes(rt: &impl Print, config: &[u8]) -> io::Result<()> {
     say(
         rt,
-        b"words: the vendor word",
-        Value::Is(u16_at(config, 0) as u64),
+        "words: the vendor word",
+        Ok(u64::from(u16_at(config, 0))),
     )?;
     say(
         rt,
-        b"fields: the energy unit of 0xA383",
-        Value::Is(field(0xA383, 6, 5)),
+        "fields: the energy unit of 0xA383",
+        Ok(field(0xA383, 6, 5)),
     )
 }

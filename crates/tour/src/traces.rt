@@ -1,55 +1,56 @@
 // A trace: the record of a closing written, taken apart, put together again, replayed, and the line of a stop.
-use crate::start::say;
-use energy_calls::calls::{Call, number_of};
-use records::partial::{begin, gather};
+use crate::start::{say, say_refusal};
+use energy_calls::calls::Call;
+use records::partial::{Rule, begin, gather};
 use records_body::body::numbers;
 use replay_lines::spoken::stop_line;
 use replay_steps::steps::{Outcome, start, step};
 use replay_trace::trace::{LENGTHS, write_record};
 use std::io;
-use words::answers::Value;
+use text::page::Page;
+use words::answers::Refusal;
 
 // What the replay of a closed channel's closing answers.
-fn replayed(bytes: &[u8]) -> u64 {
-    let after = step(start(), bytes);
-    let outcome = after.outcome;
-    let Outcome::Replied(reply) = outcome else {
-        return 0;
-    };
-    let answer = reply.answer;
-    number_of(answer) as u64
+fn replayed(bytes: &[u8]) -> Result<Option<u64>, Refusal> {
+    match step(start(), bytes).outcome {
+        Outcome::Replied(reply) => reply.answer,
+        _ => Ok(None),
+    }
 }
 
 pub(crate) fn replay(rt: &impl Print) -> io::Result<()> {
     let mut bytes = [0u8; 2];
-    let written = write_record(&mut bytes, 7, Call::Close);
     say(
         rt,
-        b"replay_trace: bytes of the record of a closing",
-        written,
+        "replay_trace: bytes of the record of a closing",
+        write_record(&mut bytes, 7, Call::Close),
     )?;
-    let numbers = numbers([1, 0, 0, 0, 0, 0, 0, 0], &bytes);
+    let [channel, ..] = numbers([1, 0, 0, 0, 0, 0, 0, 0], &bytes);
+    say(rt, "records_body: the channel in it", Ok(channel))?;
+    let rule = Rule {
+        table: &LENGTHS,
+        limit: 9007199254740991,
+    };
+    let gathered = gather(rule, begin(0), &bytes);
     say(
         rt,
-        b"records_body: the channel in it",
-        Value::Is(numbers[0]),
+        "records: bytes up to the end of the first record in it",
+        Ok(gathered.used as u64),
     )?;
-    let table = LENGTHS;
-    let gathered = gather(&table, 9007199254740991, begin(0), &bytes);
-    say(
+    say_refusal(
         rt,
-        b"records: bytes up to the end of the first record in it",
-        Value::Is(gathered.used as u64),
+        "replay_steps: the refusal of that closing, or 0",
+        replayed(&bytes),
     )?;
+    let mut line = [0u8; 32];
+    let mut page = Page {
+        bytes: &mut line,
+        at: 0,
+    };
+    stop_line(&mut page, 63);
     say(
         rt,
-        b"replay_steps: the refusal of that closing, or 0",
-        Value::Is(replayed(&bytes)),
-    )?;
-    let mut page = [0u8; 32];
-    say(
-        rt,
-        b"replay_lines: bytes of the line of a stop at 63",
-        Value::Is(stop_line(&mut page, 0, 63) as u64),
+        "replay_lines: bytes of the line of a stop at 63",
+        Ok(page.at as u64),
     )
 }

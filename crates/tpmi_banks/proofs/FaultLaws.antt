@@ -1,7 +1,8 @@
--- The faults of a table, case by case: one bank against another, against all the earlier ones, and an entry's own. Assumes nothing.
+-- The faults of a table: the numbers of a bank, a turn of the pass over the earlier banks, and the fault of an entry, case by case. Assumes
+-- nothing.
 use Prim.Native.Nat.{ℕ, ◌+◌, ◌*◌, ◌^◌, ◌≤◌, ◌<◌}
-use mathlib.Core.Path.{◌≡◌, refl, sym, ap, ◌∙◌}
-use mathlib.Core.Bool.{Bool, true, false, ◌||◌}
+use mathlib.Core.Path.{◌≡◌, refl, sym, ap, ap₂, ◌∙◌}
+use mathlib.Core.Bool.{Bool, true, false, ◌||◌, or_assoc}
 use mathlib.Core.List.{List, [], ◌∷◌}
 use mathlib.Core.Logic.{◌≢◌}
 use native.Mathlib.Nat.{mul-le-mul}
@@ -12,12 +13,10 @@ use Rattle.words.specs.Answers.{first}
 use Rattle.words.specs.Below.{any_below}
 use Rattle.words.specs.Bytes.{number_at}
 use Rattle.fields.proofs.FieldLaws.{field_lt}
-use Rattle.words.proofs.AnswerLaws.{first_skip, first_take}
-use Rattle.words.proofs.TestLaws.{or_skip, or_take}
-use Rattle.words.proofs.BelowLaws.{any_found, any_skip}
-use Rattle.words.proofs.Theorems.{exact_fact}
+use Rattle.words.proofs.AnswerLaws.{first_skip, first_take, first_end}
+use Rattle.words.proofs.BelowLaws.{any_found, any_next}
 use Rattle.tpmi_entries.specs.Entry.{entry_of, entry_at}
-use Rattle.tpmi_banks.specs.Faults.{Small, bank_of, bank_in, repeats, meets, clash_of, repeats_at, meets_at, earlier_of, overlap, empty_bank, tests, fault_at}
+use Rattle.tpmi_banks.specs.Faults.{Small, bank_of, bank_in, repeats_at, meets_at, overlap, empty_bank, tests, fault_at}
 use Rattle.tpmi_banks.specs.declared.faults.Bank.{Bank}
 
 -- an entry that is read from bytes has small numbers
@@ -28,6 +27,14 @@ entry_small s at = let x : ℕ = number_at s at 8 in record { instances = field_
 -- so its bank's bytes stay few
 pub bank_small : {a b : ℕ} → a < 256 → b < 65536 → a * b ≤ 16711425
 bank_small {a} {b} h k = mul-le-mul {n₁ = a} {m₁ = b} {n₂ = 255} {m₂ = 65535} (omega arith) (omega arith)
+
+pub bank_words : (s : List ℕ) (t k : ℕ) → (bank_in s t k).words < 65536
+unfolding bank_in bank_of
+bank_words s t k = (entry_small s (t + k * 8)).words
+
+pub bank_instances : (s : List ℕ) (t k : ℕ) → (bank_in s t k).instances < 256
+unfolding bank_in bank_of
+bank_instances s t k = (entry_small s (t + k * 8)).instances
 
 -- the numbers of a bank, with the table below 2 to the 32
 pub record Bounded (b : Bank) : Type 0 where
@@ -40,65 +47,11 @@ pub bank_bounded : (s : List ℕ) (t k : ℕ) → t < 2 ^ 32 → Bounded (bank_i
 unfolding bank_in bank_of
 bank_bounded s t k h = let e = entry_small s (t + k * 8) in record { instances = e.instances; words = e.words; start = omega (arith, e.offset); end = refl }
 
--- ---- one bank against another
+-- ---- a turn of the pass over the earlier banks
 
-module _ (a b : Bank) where
-  pub clash_repeats : clash_of a b ≡ 10 → repeats a b ≡ true
-  unfolding clash_of
-  clash_repeats e = ((exact_fact [] (repeats a b) 10 ((meets a b, 11) ∷ []) (λ z. omega arith) tt).0 e).1
-
-  pub clash_other : clash_of a b ≢ 10 → repeats a b ≡ false
-  unfolding clash_of
-  clash_other h = by (repeats a b) refl
-    where
-      by : (r : Bool) → repeats a b ≡ r → r ≡ false
-      by true e = absurd (h (first_take _ _ e))
-      by false e = refl
-
-  pub clash_meets : clash_of a b ≡ 11 → meets a b ≡ true
-  unfolding clash_of
-  clash_meets e = ((exact_fact ((repeats a b, 10) ∷ []) (meets a b) 11 [] (λ z. omega arith) tt).0 e).1
-
-  pub clash_none : clash_of a b ≢ 10 → clash_of a b ≢ 11 → meets a b ≡ false
-  unfolding clash_of
-  clash_none h k = by (meets a b) refl
-    where
-      by : (m : Bool) → meets a b ≡ m → m ≡ false
-      by true e = absurd (k (first_skip _ _ (clash_other h) ∙ first_take _ _ e))
-      by false e = refl
-
--- ---- one bank against all the earlier ones
-
-module _ (s : List ℕ) (t : ℕ) (b : Bank) where
-  -- what a pass that has met no 10 says so far
-  abbrev pub sofar : ℕ → ℕ
-  sofar j = first ((any_below (meets_at s t b) j, 11) ∷ [])
-
-  pub sofar_more : (j : ℕ) → meets_at s t b j ≡ true → sofar (j + 1) ≡ 11
-  sofar_more j m = first_take _ _ (any_found (meets_at s t b) j (j + 1) (omega arith) m)
-
-  pub sofar_same : (j : ℕ) → meets_at s t b j ≡ false → sofar (j + 1) ≡ sofar j
-  sofar_same j m = ap (λ (x : Bool). first ((x, 11) ∷ [])) (any_skip (meets_at s t b) j m)
-
-  pub earlier_ten : (j k : ℕ) → j < k → repeats_at s t b j ≡ true → earlier_of s t b k ≡ 10
-  unfolding earlier_of
-  earlier_ten j k l r = first_take _ _ (any_found (repeats_at s t b) j k l r)
-
-  pub earlier_rest : (k : ℕ) → any_below (repeats_at s t b) k ≡ false → earlier_of s t b k ≡ sofar k
-  unfolding earlier_of
-  earlier_rest k r = first_skip _ _ r
-
-  pub earlier_repeats : (k : ℕ) → earlier_of s t b k ≡ 10 → any_below (repeats_at s t b) k ≡ true
-  unfolding earlier_of
-  earlier_repeats k e = ((exact_fact [] (any_below (repeats_at s t b) k) 10 ((any_below (meets_at s t b) k, 11) ∷ []) (λ z. omega arith) tt).0 e).1
-
-  pub earlier_other : (k : ℕ) → earlier_of s t b k ≢ 10 → any_below (repeats_at s t b) k ≡ false
-  unfolding earlier_of
-  earlier_other k h = by (any_below (repeats_at s t b) k) refl
-    where
-      by : (r : Bool) → any_below (repeats_at s t b) k ≡ r → r ≡ false
-      by true e = absurd (h (first_take _ _ e))
-      by false e = refl
+-- met so far, by the table or by a bank below j, and by bank j
+pub met_more : {x y : Bool} (o : Bool) (p : ℕ → Bool) (j : ℕ) → x ≡ (o || any_below p j) → y ≡ p j → (x || y) ≡ (o || any_below p (j + 1))
+met_more o p j e g = ap₂ (λ (a b : Bool). a || b) e g ∙ or_assoc o (any_below p j) (p j) ∙ ap (λ (b : Bool). o || b) (sym (any_next p j))
 
 -- ---- an entry's own fault
 
@@ -123,13 +76,17 @@ module _ (s : List ℕ) (t n k : ℕ) {b : Bank} (is : b ≡ bank_in s t k) wher
         from_ten : fault_at s t n k ≡ first ((any_below (repeats_at s t b) k, 10) ∷ (overlap t (t + n * 8) b.start b.end || any_below (meets_at s t b) k, 11) ∷ [])
         from_ten = entry_tests ∙ first_skip _ _ (ne_eqb _ _ wide) ∙ first_skip _ _ (le-ltb _ _ inside)
 
-        pub fault_ten : earlier_of s t b k ≡ 10 → fault_at s t n k ≡ 10
-        fault_ten e = from_ten ∙ first_take _ _ (earlier_repeats s t b k e)
+        pub fault_ten : (j : ℕ) → j < k → repeats_at s t b j ≡ true → fault_at s t n k ≡ 10
+        fault_ten j l r = from_ten ∙ first_take _ _ (any_found (repeats_at s t b) j k l r)
 
-        pub fault_eleven : earlier_of s t b k ≢ 10 → overlap t (t + n * 8) b.start b.end ≡ true → fault_at s t n k ≡ 11
-        fault_eleven o m = from_ten ∙ first_skip _ _ (earlier_other s t b k o) ∙ first_take _ _ (or_take _ m)
+        module _ {j : ℕ} (all : j ≡ k) (unlike : any_below (repeats_at s t b) j ≡ false) where
+          past_ten : {m : Bool} → m ≡ (overlap t (t + n * 8) b.start b.end || any_below (meets_at s t b) j) → fault_at s t n k ≡ first ((m, 11) ∷ [])
+          past_ten e =
+              from_ten ∙ first_skip _ _ (ap (any_below (repeats_at s t b)) (sym all) ∙ unlike)
+              ∙ ap (λ (x : Bool). first ((x, 11) ∷ [])) (ap (λ (i : ℕ). overlap t (t + n * 8) b.start b.end || any_below (meets_at s t b) i) (sym all) ∙ sym e)
 
-        pub fault_rest : earlier_of s t b k ≢ 10 → overlap t (t + n * 8) b.start b.end ≡ false → fault_at s t n k ≡ earlier_of s t b k
-        fault_rest o m =
-            let r = earlier_other s t b k o in
-            from_ten ∙ first_skip _ _ r ∙ ap (λ (x : Bool). first ((x, 11) ∷ [])) (or_skip _ m) ∙ sym (earlier_rest s t b k r)
+          pub fault_eleven : {m : Bool} → m ≡ (overlap t (t + n * 8) b.start b.end || any_below (meets_at s t b) j) → m ≡ true → fault_at s t n k ≡ 11
+          fault_eleven e h = past_ten e ∙ first_take _ _ h
+
+          pub fault_clean : {m : Bool} → m ≡ (overlap t (t + n * 8) b.start b.end || any_below (meets_at s t b) j) → m ≡ false → fault_at s t n k ≡ 0
+          fault_clean e h = past_ten e ∙ first_skip _ _ h ∙ first_end

@@ -47,19 +47,12 @@ repeats a b = not (empty_bank a) && eqb a.id b.id
 unfoldable pub meets : Bank → Bank → Bool
 meets a b = not (empty_bank a) && overlap a.start a.end b.start b.end
 
-unfoldable pub clash_of : Bank → Bank → ℕ
-clash_of a b = first ((repeats a b, 10) ∷ (meets a b, 11) ∷ [])
-
 -- the bank of entry j of the table against b
 abbrev pub repeats_at : List ℕ → ℕ → Bank → ℕ → Bool
 repeats_at s t b j = repeats (bank_in s t j) b
 
 abbrev pub meets_at : List ℕ → ℕ → Bank → ℕ → Bool
 meets_at s t b j = meets (bank_in s t j) b
-
--- a bank against those of the entries below k
-unfoldable pub earlier_of : List ℕ → ℕ → Bank → ℕ → ℕ
-earlier_of s t b k = first ((any_below (repeats_at s t b) k, 10) ∷ (any_below (meets_at s t b) k, 11) ∷ [])
 
 -- the tests of an entry that is not empty, in their order; the table is all of its n entries of 8 bytes
 abbrev pub tests : List ℕ → ℕ → ℕ → ℕ → Bank → List (Bool × ℕ)

@@ -1,9 +1,11 @@
 // A table of PFS entries: the bank of each, and the faults, refusals 8 to 11, entry by entry. Total for any slice, any table offset of
 // 32 bits and any number of entries of 8 bits, which is all that a VSEC structure can name.
-ghost use Rattle.std.specs.Prelude.{◌≡◌};
-ghost use Rattle.tpmi_banks.specs.Faults.{Small, bank_of, bank_in, empty_bank, overlap, clash_of, earlier_of, fault_at, faults_of};
+ghost use Rattle.std.specs.Prelude.{◌≡◌, ◌<◌, ◌^◌};
+ghost use Rattle.words.specs.Told.{done, passes};
+ghost use Rattle.tpmi_banks.specs.Faults.{Small, bank_of, bank_in, empty_bank, overlap, repeats, meets, fault_at, faults_of};
 
 use tpmi_entries::entry::{Entry, entry_at};
+use words::answers::Refusal;
 
 // What an entry says of its bank: NumEntries instances of EntrySize 32-bit words each, in the bytes from start up to end.
 #[derive(Clone, Copy)]
@@ -18,6 +20,7 @@ pub struct Bank {
 fn bank_of(table: u32, e: Entry) -> Bank
     requires { Small e }
     ensures answer { result ≡ bank_of table e }
+    ensures near { result.start < 2 ^ 33 }
 {
     let start = table as usize + e.offset as usize * 1024;
     let size = e.instances as usize * e.words as usize * 4;
@@ -25,111 +28,94 @@ fn bank_of(table: u32, e: Entry) -> Bank
         id: e.id,
         instances: e.instances,
         words: e.words,
-        start: start,
+        start,
         end: start + size,
     }
 }
 
-// The bank of entry k of the table.
-pub fn bank_in(bar: &[u8], table: u32, k: u8) -> Bank
-    ensures answer { result ≡ bank_in bar.now table k }
-{
-    let at = table as usize + k as usize * 8;
-    bank_of(table, entry_at(bar, at))
-}
-
 // No instance, or instances of no size.
+#[tactic(auto, unfolding(crate::specs::Faults::empty_bank))]
 pub fn empty(b: Bank) -> bool
     ensures answer { result ≡ empty_bank b }
 {
-    if b.instances == 0 {
-        return true;
-    }
-    b.words == 0
+    b.instances == 0 || b.words == 0
 }
 
 // Two stretches, each from its start up to its end, share a byte.
 fn shared(a: usize, b: usize, c: usize, d: usize) -> bool
     ensures answer { result ≡ overlap a b c d }
 {
-    if a < d {
-        return c < b;
-    }
-    false
+    a < d && c < b
 }
 
-// The fault of a bank against an earlier one: 10 for the same identifier, 11 for a shared byte.
-fn clash(earlier: Bank, b: Bank) -> u8
-    ensures answer { result ≡ clash_of earlier b }
+// The earlier bank, if it is not empty, has the identifier of the other.
+#[tactic(auto, unfolding(crate::specs::Faults::repeats))]
+fn repeats(earlier: Bank, b: Bank) -> bool
+    ensures answer { result ≡ repeats earlier b }
 {
-    if empty(earlier) {
-        return 0;
-    }
-    if earlier.id == b.id {
-        return 10;
-    }
-    if shared(earlier.start, earlier.end, b.start, b.end) {
-        return 11;
-    }
-    0
+    !empty(earlier) && earlier.id == b.id
 }
 
-// The fault of entry k's bank against all the earlier ones, by one pass: 10 wherever it comes, else 11 if some bank shares a byte.
-fn earlier(bar: &[u8], table: u32, k: u8, b: Bank) -> u8
-    ensures answer { result ≡ earlier_of bar.now table b k }
+// The earlier bank, if it is not empty, shares a byte with the other.
+#[tactic(auto, unfolding(crate::specs::Faults::meets))]
+fn meets(earlier: Bank, b: Bank) -> bool
+    ensures answer { result ≡ meets earlier b }
 {
-    let mut found: u8 = 0;
-    let mut j: u8 = 0;
-    while j < k {
-        let c = clash(bank_in(bar, table, j), b);
-        if c == 10 {
-            return 10;
+    !empty(earlier) && shared(earlier.start, earlier.end, b.start, b.end)
+}
+
+// The entries of a table that begins at place `table` of a BAR capture.
+#[derive(Clone, Copy)]
+pub struct Entries<'a> {
+    pub bar: &'a [u8],
+    pub table: u32,
+}
+
+impl Entries<'_> {
+    // The bank of entry k.
+    pub fn bank_in(self, k: u8) -> Bank
+        ensures answer { result ≡ bank_in self.entry.bar.now self.entry.table k }
+        ensures near { result.start < 2 ^ 33 }
+    {
+        let at = self.table as usize + usize::from(k) * 8;
+        bank_of(self.table, entry_at(self.bar, at))
+    }
+
+    // The fault of entry k of so many. Its bank is held against the table and against all the earlier banks by one pass: 10 wherever it comes,
+    // else 11 if some byte is shared.
+    pub fn fault(self, count: u8, k: u8) -> Result<(), Refusal>
+        ensures answer { done result ≡ passes (fault_at self.entry.bar.now self.entry.table count k) }
+    {
+        let b = self.bank_in(k);
+        if empty(b) {
+            return Ok(());
         }
-        if c == 11 {
-            found = 11;
+        if b.words == 1 {
+            return Err(Refusal(8));
         }
-        j += 1;
-    }
-    found
-}
-
-// The fault of entry k of a table of so many entries, 0 where it has none.
-pub fn fault(bar: &[u8], table: u32, entries: u8, k: u8) -> u8
-    ensures answer { result ≡ fault_at bar.now table entries k }
-{
-    let b = bank_in(bar, table, k);
-    if empty(b) {
-        return 0;
-    }
-    if b.words == 1 {
-        return 8;
-    }
-    if bar.len() < b.end {
-        return 9;
-    }
-    let against = earlier(bar, table, k, b);
-    if against == 10 {
-        return 10;
-    }
-    let from = table as usize;
-    let to = from + entries as usize * 8;
-    if shared(from, to, b.start, b.end) {
-        return 11;
-    }
-    against
-}
-
-// The first faulty entry of the table decides.
-pub fn faults(bar: &[u8], table: u32, entries: u8) -> u8
-    ensures answer { result ≡ faults_of bar.now table entries }
-{
-    let mut k: u8 = 0;
-    while k < entries {
-        let f = fault(bar, table, entries, k);
-        if f != 0 {
-            return f;
+        if self.bar.len() < b.end {
+            return Err(Refusal(9));
         }
-        k += 1;
+        let from = self.table as usize;
+        let to = from + usize::from(count) * 8;
+        let mut met = shared(from, to, b.start, b.end);
+        for j in 0..k {
+            let earlier = self.bank_in(j);
+            if repeats(earlier, b) {
+                return Err(Refusal(10));
+            }
+            met |= meets(earlier, b);
+        }
+        if met { Err(Refusal(11)) } else { Ok(()) }
     }
-    0
+
+    // The first faulty entry of so many decides.
+    pub fn faults(self, count: u8) -> Result<(), Refusal>
+        ensures answer { done result ≡ passes (faults_of self.entry.bar.now self.entry.table count) }
+    {
+        for k in 0..count {
+            self.fault(count, k)?;
+        }
+        Ok(())
+    }
 }

@@ -2,15 +2,15 @@
 ghost use Rattle.std.specs.Prelude.{◌≡◌, not, ◌*◌, ◌≤◌, ◌<◌};
 ghost use Rattle.fields.specs.Masks.{mask_of, onwards};
 ghost use Rattle.tpmi_banks.specs.Faults.{bank_in};
-ghost use Rattle.capture.specs.Capture.{captured};
+ghost use Rattle.capture.specs.Capture.{capture_of};
 ghost use Rattle.tpmi_features.specs.Instances.{invalid_at};
 ghost use Rattle.tpmi_counts.specs.Valid.{valid_in, valid_count_in, valid_count_of};
 ghost use Rattle.words.specs.Told.{told};
 
-use capture::places::{Found, bar_of, number_of};
-use tpmi_banks::faults::bank_in;
+use capture::places::Capture;
+use tpmi_banks::faults::Entries;
 use tpmi_features::instances::feature;
-use words::answers::Value;
+use words::answers::Refusal;
 use words::bytes::u64_at;
 
 // The 8 bytes at a place are not all ones.
@@ -26,12 +26,10 @@ fn mask(bar: &[u8], start: usize, size: usize, first: usize, many: usize) -> u64
     ensures answer { result ≡ mask_of (onwards (valid_in bar.now start size) first) many }
 {
     let mut bits: u64 = 0;
-    let mut k: usize = 0;
-    while k < many {
+    for k in 0..many {
         if valid_at(bar, start + (first + k) * size) {
-            bits |= 1u64 << k;
+            bits |= 1 << k;
         }
-        k += 1;
     }
     bits
 }
@@ -43,42 +41,35 @@ fn count_valid(bar: &[u8], start: usize, size: usize, count: usize) -> u64
 {
     let mut total: u64 = 0;
     let mut first: usize = 0;
+    // A word takes 64 instances, the last one those that are left.
     while first < count {
-        let mut many = count - first;
-        if 64 < many {
-            many = 64;
-        }
-        total += u64::count_ones(mask(bar, start, size, first, many)) as u64;
+        let many = (count - first).min(64);
+        total += u64::from(mask(bar, start, size, first, many).count_ones());
         first += many;
     }
     total
 }
 
 // The valid instances of the bank of entry k of a table.
-pub fn valid_in(bar: &[u8], table: u32, k: u8) -> u64
-    ensures answer { result ≡ valid_count_in bar.now (bank_in bar.now table k).start ((bank_in bar.now table k).words * 4) (bank_in bar.now table k).instances }
+pub fn valid_in(entries: Entries, k: u8) -> u64
+    ensures answer { result ≡ valid_count_in entries.entry.bar.now (bank_in entries.entry.bar.now entries.entry.table k).start ((bank_in entries.entry.bar.now entries.entry.table k).words * 4) (bank_in entries.entry.bar.now entries.entry.table k).instances }
 {
-    let b = bank_in(bar, table, k);
-    count_valid(bar, b.start, b.words as usize * 4, b.instances as usize)
+    let b = entries.bank_in(k);
+    count_valid(
+        entries.bar,
+        b.start,
+        b.words as usize * 4,
+        b.instances as usize,
+    )
 }
 
 // The valid instances of a feature.
-pub fn valid_count<'a>(
-    config: &[u8],
-    lo: u8,
-    low: &'a [u8],
-    hi: u8,
-    high: &'a [u8],
-    id: u64,
-) -> Value
-    ensures answer { told result ≡ valid_count_of (captured config.now lo low.now hi high.now) id }
+pub fn valid_count(capture: Capture, id: u64) -> Result<u64, Refusal>
+    ensures answer { told result ≡ valid_count_of (capture_of capture.entry) id }
 {
-    let found = feature(config, lo, low, hi, high, id);
-    let Found::At(bank) = found else {
-        return Value::Refused(number_of(found));
-    };
-    Value::Is(count_valid(
-        bar_of(bank.bir, lo, low, hi, high),
+    let bank = feature(capture, id)?;
+    Ok(count_valid(
+        capture.bar(bank.bir),
         bank.start,
         bank.size,
         bank.count as usize,

@@ -8,20 +8,18 @@ use native.Mathlib.Decide.{dec_le}
 use borrow.Author.Tests.{lt-ltb, le-ltb, ltb-true, ltb-false}
 use lib.Dec.{ltb}
 use lib.ListN.{length, get_or}
-use Rattle.words.specs.Answers.{Answer, refused, gives}
+use Rattle.words.specs.Answers.{refused, gives}
 use Rattle.fields.specs.Tables.{Fit, wider}
 use Rattle.fields.proofs.TableLaws.{fields_fit, fit_narrow}
-use Rattle.words.proofs.AnswerLaws.{once}
+use Rattle.words.proofs.Told.{once_by}
 use Rattle.fields.proofs.Structures.{value_trips}
 use Rattle.words.proofs.TestLaws.{fails_exactly}
 use Rattle.words.proofs.Theorems.{exact_fact}
 use Rattle.fields.proofs.Theorems.{wider_fact}
 use Rattle.tpmi_entries.specs.Entry.{widths, entry_of, entry_at, values, read_of, write_number, written}
-use Rattle.tpmi_entries.specs.Told.{told, ToldOnce}
+use Rattle.tpmi_entries.specs.Told.{ToldOnce}
 use Rattle.tpmi_entries.specs.Facts.{EntryReads, EntryAnswers, EntryTrips, entry_in}
 use Rattle.tpmi_entries.specs.declared.entry.Entry.{Entry}
-use Rattle.tpmi_entries.specs.declared.entry.Decoded.{Decoded}
-use Rattle.tpmi_entries.specs.declared.entry.Decoded.TheVariants.{Structure, Refused}
 use Rattle.tpmi_entries.proofs.EntryLaws.{values_of, read_short, read_right, write_right, accepted}
 
 pub entry_reads : (s : List ℕ) → EntryReads s
@@ -79,14 +77,6 @@ entry_trips s =
     fits : (z : List ℕ) (e : Entry) → write_number z e ≡ 0 → (8 ≤ length z) × Fit widths (values e)
     fits z e h = accepted z e h
 
-untold : Answer → Decoded
-untold (refused n) = Refused n
-untold (gives l) = Structure (rebuilt l)
-
 pub told_once : ToldOnce
-unfolding untold rebuilt
-told_once = once told untold back
-  where
-    back : (a : Decoded) → untold (told a) ≡ a
-    back (Structure e) = refl
-    back (Refused n) = refl
+unfolding rebuilt
+told_once = once_by values rebuilt (λ e. refl)

@@ -1,14 +1,15 @@
--- What each case of the code's enum says in document 01's words.
+-- What a read of an entry says in document 01's words.
 -- Assumes nothing.
-use Rattle.words.specs.Answers.{Answer, refused, gives}
+use Rattle.std.specs.Prelude.{Result}
+use Rattle.words.specs.Answers.{Answer}
 use Rattle.words.specs.Facts.{Once}
+use Rattle.words.specs.Told.{told_by}
+use Rattle.words.specs.declared.answers.Refusal.{Refusal}
 use Rattle.tpmi_entries.specs.Entry.{values}
-use Rattle.tpmi_entries.specs.declared.entry.Decoded.{Decoded}
-use Rattle.tpmi_entries.specs.declared.entry.Decoded.TheVariants.{Structure, Refused}
+use Rattle.tpmi_entries.specs.declared.entry.Entry.{Entry}
 
-abbrev pub told : Decoded → Answer
-told (Structure e) = gives (values e)
-told (Refused n) = refused n
+abbrev pub told : Result Entry Refusal → Answer
+told = told_by values
 
 -- Two answers that say the same are the same.
 abbrev pub ToldOnce : Type 0

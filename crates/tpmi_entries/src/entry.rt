@@ -1,13 +1,13 @@
 // A PFS entry of 8 bytes as a value, with all its fields, the reserved one too: read from a part and written to one.
 ghost use Rattle.std.specs.Prelude.{◌≡◌};
-ghost use Rattle.words.specs.Answers.{number_in};
+ghost use Rattle.words.specs.Told.{done, passes};
 ghost use Rattle.tpmi_entries.specs.Entry.{entry_of, entry_at, read_of, write_number, written};
 ghost use Rattle.tpmi_entries.specs.Told.{told};
 
 use fields::bits::field;
 use fields::tables::word_of;
 use stores::numbers::store_u64;
-use words::answers::Value;
+use words::answers::Refusal;
 use words::bytes::u64_at;
 
 #[derive(Clone, Copy)]
@@ -22,22 +22,6 @@ pub struct Entry {
     pub offset: u64,
     pub attribute: u64,
     pub reserved: u64,
-}
-
-#[derive(Clone, Copy)]
-pub enum Decoded {
-    Structure(Entry),
-    Refused(u8),
-}
-
-// The refusal's number, 0 where there is a structure.
-pub fn number_of(read: Decoded) -> u8
-    ensures answer { result ≡ number_in (told read) }
-{
-    match read {
-        Decoded::Structure(_) => 0,
-        Decoded::Refused(n) => n,
-    }
 }
 
 fn of_word(x: u64) -> Entry
@@ -61,24 +45,25 @@ pub fn entry_at(s: &[u8], at: usize) -> Entry
 }
 
 // The entry in the first 8 bytes of a part.
-pub fn read(part: &[u8]) -> Decoded
+pub fn read(part: &[u8]) -> Result<Entry, Refusal>
     ensures answer { told result ≡ read_of part.now }
 {
     if part.len() < 8 {
-        return Decoded::Refused(25);
+        Err(Refusal(25))
+    } else {
+        Ok(entry_at(part, 0))
     }
-    Decoded::Structure(entry_at(part, 0))
 }
 
 // The entry written over the first 8 bytes of a part; a refused one writes nothing.
-pub fn write(part: &mut [u8], e: Entry) -> u8
-    ensures answer { result ≡ write_number part.old e }
+pub fn write(part: &mut [u8], e: Entry) -> Result<(), Refusal>
+    ensures answer { done result ≡ passes (write_number part.old e) }
     ensures kept { part.new ≡ written part.old e }
 {
     if part.len() < 8 {
-        return 25;
+        return Err(Refusal(25));
     }
-    let made = word_of(
+    let word = word_of(
         &[8, 8, 16, 16, 2, 14],
         &[
             e.id,
@@ -88,10 +73,7 @@ pub fn write(part: &mut [u8], e: Entry) -> u8
             e.attribute,
             e.reserved,
         ],
-    );
-    let Value::Is(word) = made else {
-        return 17;
-    };
+    )?;
     store_u64(part, 0, word);
-    0
+    Ok(())
 }

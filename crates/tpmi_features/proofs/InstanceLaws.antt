@@ -1,21 +1,26 @@
 -- Features and instances, stage by stage: where each stage refuses, and the values where all pass. Assumes nothing.
 use Prim.Native.Nat.{ℕ, ◌+◌, ◌*◌, ◌-◌, ◌^◌, ◌≤◌, ◌<◌}
-use mathlib.Core.Path.{◌≡◌, sym, ap, ap₂, ◌∙◌}
+use mathlib.Core.Path.{◌≡◌, sym, ap, ap₂, subst, ◌∙◌}
+use mathlib.Core.Bool.{true}
 use mathlib.Core.List.{List, [], ◌∷◌}
 use mathlib.Core.Logic.{◌≢◌}
+use native.Mathlib.Nat.{sub-zero, sub_self}
 use native.Mathlib.Omega.{arith}
 use borrow.Author.Tests.{lt-leb, le-leb, eq-eqb, ne_eqb}
 use lib.ListN.{take, drop}
 use Rattle.words.specs.Answers.{refused, gives, unless}
+use Rattle.words.specs.Below.{least}
 use Rattle.words.specs.Bytes.{number_at}
 use Rattle.words.proofs.AnswerLaws.{first_skip, first_take, first_end, stage_passes, stage_last, unless_refused}
+use Rattle.words.proofs.BelowLaws.{least_here, least_none}
 use Rattle.tpmi_banks.specs.Faults.{bank_in}
+use Rattle.tpmi_banks.specs.declared.faults.Bank.{Bank}
 use Rattle.tpmi_banks.proofs.FaultLaws.{Bounded, bank_bounded}
 use Rattle.capture.specs.Capture.{Capture}
 use Rattle.tpmi_discovery.specs.Table.{bir_of, bar_of, table_of, entries_of}
 use Rattle.tpmi_discovery.specs.Discovery.{discovery_number}
 use Rattle.capture.specs.Places.{named}
-use Rattle.tpmi_features.specs.Instances.{index_in, unlisted, feature_in, bank_for, size_for, feature_number, feature_of, start_for, invalid_at, unusable, instance_in, Roomy, instance_number, instance_of, instance_part}
+use Rattle.tpmi_features.specs.Instances.{bears, index_in, unlisted, feature_in, bank_for, size_for, feature_number, feature_of, start_for, invalid_at, unusable, instance_in, Roomy, instance_number, instance_of, instance_part}
 use Rattle.capture.specs.Told.{numbers}
 use Rattle.capture.specs.declared.places.Place.{Place}
 use Rattle.capture.proofs.PartLaws.{Placed, placed_is}
@@ -25,16 +30,27 @@ use Rattle.tpmi_discovery.proofs.TableLaws.{Tabled, bar_named, table_bound}
 -- ---- a feature in its table
 
 module _ (s : List ℕ) (b t n id : ℕ) where
-  bank_values : List ℕ
-  bank_values = let k = bank_in s t (index_in s t n id) in b ∷ k.start ∷ k.words * 4 ∷ k.instances ∷ []
+  bank_values : Bank → List ℕ
+  bank_values k = b ∷ k.start ∷ k.words * 4 ∷ k.instances ∷ []
 
-  pub feature_missing : n ≤ index_in s t n id → feature_in s b t n id ≡ refused 12
-  unfolding feature_in unlisted bank_values
-  feature_missing h = ap (λ (k : ℕ). unless k (gives bank_values)) (first_take _ _ (le-leb _ _ h))
+  -- the search before its first turn; one that meets the feature; and one that is over
+  pub search_begins : least (bears s t id) (n - 0) 0 ≡ index_in s t n id
+  unfolding index_in
+  search_begins = rw sub-zero
 
-  pub feature_there : index_in s t n id < n → (let k = bank_in s t (index_in s t n id) in feature_in s b t n id ≡ gives (b ∷ k.start ∷ k.words * 4 ∷ k.instances ∷ []))
+  pub feature_there : {k : ℕ} {bank : Bank} → k < n → least (bears s t id) (n - k) k ≡ index_in s t n id → bank ≡ bank_in s t k → bears s t id k ≡ true
+      → gives (b ∷ bank.start ∷ bank.words * 4 ∷ bank.instances ∷ []) ≡ feature_in s b t n id
   unfolding feature_in unlisted bank_values
-  feature_there h = ap (λ (k : ℕ). unless k (gives bank_values)) (first_skip _ _ (lt-leb _ _ h) ∙ first_end)
+  feature_there {k} {bank} l e is held =
+      let here : k ≡ index_in s t n id = sym (least_here (bears s t id) (n - k) k (omega arith) held) ∙ e in
+      sym (ap (λ (x : ℕ). unless x (gives (bank_values (bank_in s t (index_in s t n id))))) (first_skip _ _ (lt-leb _ _ (subst (λ (x : ℕ). x < n) here l)) ∙ first_end)
+      ∙ ap (λ (x : Bank). gives (bank_values x)) (ap (bank_in s t) (sym here) ∙ sym is))
+
+  pub feature_missing : {k : ℕ} → k ≡ n → least (bears s t id) (n - k) k ≡ index_in s t n id → refused 12 ≡ feature_in s b t n id
+  unfolding feature_in unlisted bank_values
+  feature_missing {k} all e =
+      let none : n ≡ index_in s t n id = sym (least_none (bears s t id) n) ∙ (rw (all, sub_self) at e) in
+      sym (ap (λ (x : ℕ). unless x (gives (bank_values (bank_in s t (index_in s t n id))))) (first_take _ _ (le-leb _ _ (omega (arith, none)))))
 
 -- ---- an instance of its bank
 

@@ -1,16 +1,16 @@
 -- Calls that look an instance up and ask its bytes: the instance's refusal handed on, or what is said of the bytes. Assumes nothing.
 use Prim.Native.Nat.{ℕ}
+use Rattle.std.specs.Prelude.{Ok, Err}
 use mathlib.Core.Path.{◌≡◌, sym, ap, ◌∙◌}
 use mathlib.Core.List.{List}
 use mathlib.Core.Logic.{◌≢◌}
-use Rattle.words.specs.Answers.{Answer, refused, gives, number_in}
+use Rattle.words.specs.Answers.{Answer, refused, gives}
 use Rattle.words.proofs.AnswerLaws.{unless_refused, unless_stops, unless_passes}
 use Rattle.capture.specs.Capture.{Capture}
 use Rattle.capture.specs.Places.{part_of}
 use Rattle.capture.specs.Told.{numbers, told}
 use Rattle.capture.specs.declared.places.Place.{Place}
-use Rattle.capture.specs.declared.places.Found.{Found}
-use Rattle.capture.specs.declared.places.Found.TheVariants.{At, Refused}
+use Rattle.words.specs.declared.answers.Refusal.{Refusal}
 use Rattle.tpmi_features.specs.Instances.{instance_number, instance_of, instance_part, instance_or}
 use Rattle.tpmi_features.proofs.InstanceLaws.{instance_at}
 use Rattle.tpmi_features.proofs.InsideLaws.{part_at}
@@ -30,10 +30,9 @@ module _ (c : Capture) (id n : ℕ) (a : List ℕ → Answer) where
       let q = instance_at c id n e in
       ap a (same ∙ part_at c id n q) ∙ sym (unless_passes (a (instance_part c id n)) q.zero)
 
-  -- the same of the enum that the lookup answered, as a call finds it
-  module _ {found : Found} (is : told found ≡ instance_of c id n) where
-    pub handed_on : {m r : ℕ} → found ≡ Refused m → r ≡ number_in (told found) → refused r ≡ instance_or c id n a
-    handed_on e number = ap refused (number ∙ ap (λ (f : Found). number_in (told f)) e) ∙ sym (or_refused (sym is ∙ ap told e))
+  -- the same of the answer of the lookup, as a call finds it
+  pub handed_on : {r : Refusal} → told (Err r) ≡ instance_of c id n → refused r.0 ≡ instance_or c id n a
+  handed_on is = sym (or_refused (sym is))
 
-    pub said_of : {p : Place} {s : List ℕ} {v : Answer} → found ≡ At p → s ≡ part_of p c.lo c.low c.hi c.high → v ≡ a s → v ≡ instance_or c id n a
-    said_of e part says = says ∙ or_found (sym is ∙ ap told e) part
+  pub said_of : {p : Place} {s : List ℕ} {v : Answer} → told (Ok p) ≡ instance_of c id n → s ≡ part_of p c.lo c.low c.hi c.high → v ≡ a s → v ≡ instance_or c id n a
+  said_of is part says = says ∙ or_found (sym is) part

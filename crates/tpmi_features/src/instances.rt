@@ -1,142 +1,95 @@
 // Features and their instances: a place, or the instance's bytes as a part of the BAR capture that holds them.
 ghost use Rattle.std.specs.Prelude.{◌≡◌, not, ◌&&◌, eqb};
 ghost use Rattle.tpmi_banks.specs.Faults.{empty_bank};
-ghost use Rattle.capture.specs.Capture.{captured};
-ghost use Rattle.tpmi_features.specs.Instances.{Roomy, index_in, feature_in, feature_of, instance_in, instance_of, instance_number, instance_part};
+ghost use Rattle.capture.specs.Capture.{capture_of};
+ghost use Rattle.tpmi_features.specs.Instances.{Roomy, feature_in, feature_of, instance_in, instance_of, instance_number, instance_part};
 ghost use Rattle.capture.specs.Told.{told};
 
-use capture::places::{Found, Place, bar_of, number_of, part_of};
-use tpmi_banks::faults::{Bank, bank_in, empty};
+use capture::places::{Capture, Place};
+use tpmi_banks::faults::{Bank, Entries, empty};
 use tpmi_discovery::discovery::discover;
 use tpmi_discovery::table;
-use tpmi_discovery::table::Located;
+use words::answers::{Refusal, number_of};
 use words::bytes::u64_at;
 
 // The bank is that of the feature.
 fn held(b: Bank, id: u64) -> bool
     ensures answer { result ≡ (not (empty_bank b) && eqb b.id id) }
 {
-    if empty(b) {
-        return false;
-    }
-    b.id == id
+    !empty(b) && b.id == id
 }
 
-// The number of the first entry that is the feature; the number of entries where none is.
-fn index_in(bar: &[u8], table: u32, entries: u8, id: u64) -> u8
-    ensures answer { result ≡ index_in bar.now table entries id }
+// The bank of the first entry that is the feature.
+fn feature_in(entries: Entries, bir: u8, count: u8, id: u64) -> Result<Place, Refusal>
+    ensures answer { told result ≡ feature_in entries.entry.bar.now bir entries.entry.table count id }
 {
-    let mut k: u8 = 0;
-    while k < entries {
-        if held(bank_in(bar, table, k), id) {
-            return k;
+    for k in 0..count {
+        let b = entries.bank_in(k);
+        if held(b, id) {
+            return Ok(Place {
+                bir,
+                start: b.start,
+                size: b.words as usize * 4,
+                count: b.instances,
+            });
         }
-        k += 1;
     }
-    entries
-}
-
-fn feature_in(bar: &[u8], bir: u8, table: u32, entries: u8, id: u64) -> Found
-    ensures answer { told result ≡ feature_in bar.now bir table entries id }
-{
-    let k = index_in(bar, table, entries, id);
-    if entries <= k {
-        return Found::Refused(12);
-    }
-    let b = bank_in(bar, table, k);
-    Found::At(Place {
-        bir: bir,
-        start: b.start,
-        size: b.words as usize * 4,
-        count: b.instances,
-    })
+    Err(Refusal(12))
 }
 
 // The bank of a feature.
-pub fn feature<'a>(config: &[u8], lo: u8, low: &'a [u8], hi: u8, high: &'a [u8], id: u64) -> Found
-    ensures answer { told result ≡ feature_of (captured config.now lo low.now hi high.now) id }
+pub fn feature(capture: Capture, id: u64) -> Result<Place, Refusal>
+    ensures answer { told result ≡ feature_of (capture_of capture.entry) id }
 {
-    let located = discover(config, lo, low, hi, high);
-    let Located::Table(t) = located else {
-        return Found::Refused(table::number_of(located));
+    let t = discover(capture)?;
+    let entries = Entries {
+        bar: capture.bar(t.bir),
+        table: t.start,
     };
-    feature_in(
-        bar_of(t.bir, lo, low, hi, high),
-        t.bir,
-        t.start,
-        t.entries,
-        id,
-    )
+    feature_in(entries, t.bir, t.entries, id)
 }
 
 // Instance n of a bank.
-fn instance_in(bar: &[u8], bank: Place, n: u64) -> Found
+fn instance_in(bar: &[u8], bank: Place, n: u64) -> Result<Place, Refusal>
     requires { Roomy bank }
     ensures answer { told result ≡ instance_in bar.now bank n }
 {
     if bank.count <= n {
-        return Found::Refused(12);
+        return Err(Refusal(12));
     }
     let start = bank.start + n as usize * bank.size;
     if u64_at(bar, start) == 0xFFFF_FFFF_FFFF_FFFF {
-        return Found::Refused(13);
+        return Err(Refusal(13));
     }
-    Found::At(Place {
+    Ok(Place {
         bir: bank.bir,
-        start: start,
+        start,
         size: bank.size,
         count: 1,
     })
 }
 
 // The place of an instance.
-pub fn instance_place<'a>(
-    config: &[u8],
-    lo: u8,
-    low: &'a [u8],
-    hi: u8,
-    high: &'a [u8],
-    id: u64,
-    n: u64,
-) -> Found
-    ensures answer { told result ≡ instance_of (captured config.now lo low.now hi high.now) id n }
+pub fn instance_place(capture: Capture, id: u64, n: u64) -> Result<Place, Refusal>
+    ensures answer { told result ≡ instance_of (capture_of capture.entry) id n }
 {
-    let found = feature(config, lo, low, hi, high, id);
-    let Found::At(bank) = found else {
-        return found;
-    };
-    instance_in(bar_of(bank.bir, lo, low, hi, high), bank, n)
+    let bank = feature(capture, id)?;
+    instance_in(capture.bar(bank.bir), bank, n)
 }
 
 // The bytes of an instance, a part of the BAR capture that tBIR names; the empty part where it is refused.
-pub fn instance<'a>(
-    config: &[u8],
-    lo: u8,
-    low: &'a [u8],
-    hi: u8,
-    high: &'a [u8],
-    id: u64,
-    n: u64,
-) -> &'a [u8]
-    ensures part { result.now ≡ instance_part (captured config.now lo low.now hi high.now) id n }
+pub fn instance<'a>(capture: Capture<'a>, id: u64, n: u64) -> &'a [u8]
+    ensures part { result.now ≡ instance_part (capture_of capture.entry) id n }
 {
-    let Found::At(p) = instance_place(config, lo, low, hi, high, id, n) else {
-        return &low[0..0];
-    };
-    part_of(p, lo, low, hi, high)
+    match instance_place(capture, id, n) {
+        Ok(place) => capture.part(place),
+        Err(_) => &[],
+    }
 }
 
-// The number of an instance's lookup, 0 where its bytes are handed back.
-pub fn instance_number<'a>(
-    config: &[u8],
-    lo: u8,
-    low: &'a [u8],
-    hi: u8,
-    high: &'a [u8],
-    id: u64,
-    n: u64,
-) -> u8
-    ensures answer { result ≡ instance_number (captured config.now lo low.now hi high.now) id n }
+// The number of an instance's lookup, 0 where its bytes are handed back: `instance` itself can't be refused, since it has always given a part.
+pub fn instance_number(capture: Capture, id: u64, n: u64) -> u8
+    ensures answer { result ≡ instance_number (capture_of capture.entry) id n }
 {
-    number_of(instance_place(config, lo, low, hi, high, id, n))
+    number_of(instance_place(capture, id, n))
 }

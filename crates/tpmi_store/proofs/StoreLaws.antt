@@ -1,11 +1,11 @@
 -- What the two BAR captures hold after a store, by the one that the number names; and that the store at an instance's place is the store
 -- into the instance. Assumes nothing.
-use Prim.Native.Nat.{ℕ, ◌+◌, ◌≤◌, ◌<◌}
+use Prim.Native.Nat.{ℕ, ◌+◌, ◌≤◌}
 use mathlib.Core.Path.{◌≡◌, sym, ap₂, ◌∙◌}
 use mathlib.Core.List.{List}
 use mathlib.Core.Logic.{◌≢◌}
 use native.Mathlib.Omega.{arith}
-use borrow.Author.Tests.{le-leb, lt-leb, eq-eqb, ne_eqb}
+use borrow.Author.Tests.{le-leb, eq-eqb, ne_eqb}
 use Rattle.words.specs.Bytes.{stored}
 use Rattle.capture.specs.Capture.{Capture}
 use Rattle.capture.specs.declared.places.Place.{Place}
@@ -25,25 +25,13 @@ module _ (b at x lo : ℕ) (low : List ℕ) (hi : ℕ) (high : List ℕ) where
     unfolding in_low in_high
     in_second e = let t = ne_eqb b lo h in (rw t, rw (t, eq-eqb b hi e))
 
-    pub in_neither : b ≢ hi → (low ≡ in_low b at x lo low) × (high ≡ in_high b at x lo hi high)
-    unfolding in_low in_high
-    in_neither k = let t = ne_eqb b lo h in (rw t, rw (t, ne_eqb b hi k))
-
 -- ---- by the place
 
 module _ (p : Place) (offset x lo : ℕ) (low : List ℕ) (hi : ℕ) (high : List ℕ) where
-  pub past_piece : p.size < offset + 8 → (low ≡ low_with p offset x lo low) × (high ≡ high_with p offset x lo hi high)
-  unfolding low_with high_with
-  past_piece h = let t = lt-leb _ _ h in (rw t, rw t)
-
   module _ (h : offset + 8 ≤ p.size) where
     in_piece : (in_low p.bir (p.start + offset) x lo low ≡ low_with p offset x lo low) × (in_high p.bir (p.start + offset) x lo hi high ≡ high_with p offset x lo hi high)
     unfolding low_with high_with
     in_piece = let t = le-leb _ _ h in (rw t, rw t)
-
-    pub by_number : {ls hs : List ℕ} → (ls ≡ in_low p.bir (p.start + offset) x lo low) × (hs ≡ in_high p.bir (p.start + offset) x lo hi high)
-        → (ls ≡ low_with p offset x lo low) × (hs ≡ high_with p offset x lo hi high)
-    by_number e = (e.0 ∙ in_piece.0, e.1 ∙ in_piece.1)
 
 -- ---- the place that an instance's lookup gives
 

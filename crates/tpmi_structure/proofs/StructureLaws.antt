@@ -1,7 +1,7 @@
 -- The VSEC structure and its table of fields: from two words, from bytes, and back; its tests, read plainly. Assumes nothing.
-use Prim.Native.Nat.{ℕ, ◌+◌, ◌*◌, ◌^◌, ◌≤◌, ◌<◌}
+use Prim.Native.Nat.{ℕ, ◌+◌, ◌*◌, ◌^◌, ◌%◌, ◌≤◌, ◌<◌}
 use mathlib.Core.Path.{◌≡◌, refl, sym, ap, ◌∙◌}
-use mathlib.Core.Bool.{true, false}
+use mathlib.Core.Bool.{Bool, true, false}
 use mathlib.Core.List.{List, [], ◌∷◌, ◌++◌}
 use mathlib.Core.Logic.{◌≢◌}
 use native.Mathlib.Nat.{mul-div_cancel, zero-lt-suc}
@@ -13,7 +13,7 @@ use Rattle.words.specs.Bytes.{number_at, stored}
 use Rattle.fields.specs.Bits.{field}
 use Rattle.fields.specs.Tables.{fields, with_fields, Fit, wider}
 use Rattle.fields.proofs.Structures.{unless_refused, unless_accepted}
-use Rattle.words.proofs.TestLaws.{as_must, or_skip, or_neither}
+use Rattle.words.proofs.TestLaws.{as_must, not_as_must, or_skip, or_second, or_neither, never_both}
 use Rattle.words.proofs.AnswerLaws.{first_skip, first_take, first_end, first_zero}
 use Rattle.words.proofs.NumberLaws.{number_past, number_split}
 use Rattle.words.proofs.StoreLaws.{stored_two}
@@ -129,6 +129,41 @@ low_fits v f n = (omega (arith, f.identifier), (omega (arith, f.version), (omega
 
 pub high_fits : (v : Vsec) → Fixed v → Narrow v → Fit high_widths (high_values v)
 high_fits v f n = (omega (arith, n.reserved), (omega (arith, n.entries), (omega (arith, f.words), (omega (arith, n.bir), (omega (arith, n.offset), tt)))))
+
+-- numbers that are as they must be and do not fit their words are too wide; those that fit, with a multiple of 8, are not
+module _ (v : Vsec) where
+  pub wide_odd : v.offset % 8 ≢ 0 → too_wide v ≡ true
+  unfolding too_wide
+  wide_odd h = or_second (wider free_widths (free_values v)) (not_as_must h)
+
+  module _ (f : Fixed v) where
+    pub wide_low : wider low_widths (low_values v) ≡ true → too_wide v ≡ true
+    wide_low h = by (too_wide v) refl
+      where
+        by : (b : Bool) → too_wide v ≡ b → too_wide v ≡ true
+        by true e = e
+        by false e = absurd (never_both h (fit_narrow low_widths (low_values v) (low_fits v f (narrow_right v e))))
+
+    pub wide_high : wider high_widths (high_values v) ≡ true → too_wide v ≡ true
+    wide_high h = by (too_wide v) refl
+      where
+        by : (b : Bool) → too_wide v ≡ b → too_wide v ≡ true
+        by true e = e
+        by false e = absurd (never_both h (fit_narrow high_widths (high_values v) (high_fits v f (narrow_right v e))))
+
+  pub fit_words : v.offset % 8 ≡ 0 → wider low_widths (low_values v) ≡ false → wider high_widths (high_values v) ≡ false → too_wide v ≡ false
+  fit_words m a b =
+      let low = narrow_fit low_widths (low_values v) refl a in
+      let high = narrow_fit high_widths (high_values v) refl b in
+      right_narrow v
+      (record {
+        next = omega (arith, low.1.1.0);
+        reserved = omega (arith, high.0);
+        entries = omega (arith, high.1.0);
+        bir = omega (arith, high.1.1.1.0);
+        offset = omega (arith, high.1.1.1.1.0);
+        multiple = m;
+      })
 
 -- ---- reading and writing
 

@@ -7,20 +7,18 @@ use native.Mathlib.Omega.{arith}
 use borrow.Author.Tests.{lt-ltb, le-ltb, ltb-true, ltb-false}
 use lib.Dec.{ltb}
 use lib.ListN.{length, get_or}
-use Rattle.words.specs.Answers.{Answer, refused, gives}
 use Rattle.fields.specs.Tables.{Fit}
 use Rattle.words.proofs.TestLaws.{fails_exactly}
-use Rattle.words.proofs.AnswerLaws.{once, first_none, first_zero}
+use Rattle.words.proofs.AnswerLaws.{first_none, first_zero}
 use Rattle.fields.proofs.FieldLaws.{field_lt}
 use Rattle.fields.proofs.TableLaws.{fit_append}
 use Rattle.fields.proofs.Structures.{value_trips}
 use Rattle.words.proofs.Theorems.{exact_fact}
-use Rattle.tpmi_structure.specs.Structure.{vsec_of, vsec_at, values, widths, low_widths, high_widths, low_values, high_values, fixed_wrong, too_wide, read_number, write_number, written}
-use Rattle.tpmi_structure.specs.Told.{told, ToldOnce}
+use Rattle.words.proofs.Told.{once_by}
+use Rattle.tpmi_structure.specs.Structure.{vsec_of, vsec_at, numbers, values, widths, low_widths, high_widths, low_values, high_values, fixed_wrong, too_wide, read_number, write_number, written}
+use Rattle.tpmi_structure.specs.Told.{ToldOnce}
 use Rattle.tpmi_structure.specs.Facts.{Narrow, StructureTests, StructureAnswers, StructureTrips, structure_in}
 use Rattle.tpmi_structure.specs.declared.structure.Vsec.{Vsec}
-use Rattle.tpmi_structure.specs.declared.structure.Decoded.{Decoded}
-use Rattle.tpmi_structure.specs.declared.structure.Decoded.TheVariants as decode
 use Rattle.tpmi_structure.proofs.StructureLaws.{fixed_right, right_fixed, narrow_right, right_narrow, low_fits, high_fits, values_of, write_right, accepted}
 
 -- ---- the structure
@@ -127,10 +125,9 @@ structure_trips s =
 
 -- ---- two answers that say the same are the same
 
-untold : Answer → Decoded
-untold (refused n) = decode.Refused n
-untold (gives l) =
-    decode.Structure (record {
+from : List ℕ → Vsec
+from l =
+    record {
       identifier = get_or l 0 0;
       version = get_or l 1 0;
       next = get_or l 2 0;
@@ -142,12 +139,8 @@ untold (gives l) =
       words = get_or l 8 0;
       bir = get_or l 9 0;
       offset = get_or l 10 0;
-    })
+    }
 
 pub told_once : ToldOnce
-unfolding untold
-told_once = once told untold back
-  where
-    back : (a : Decoded) → untold (told a) ≡ a
-    back (decode.Structure v) = refl
-    back (decode.Refused n) = refl
+unfolding from
+told_once = once_by numbers from (λ v. refl)

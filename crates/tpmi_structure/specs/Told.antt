@@ -1,14 +1,15 @@
--- What each case of the code's enums says in document 01's words.
+-- What a read of the structure says in document 01's words.
 -- Assumes nothing.
-use Rattle.words.specs.Answers.{Answer, refused, gives}
+use Rattle.std.specs.Prelude.{Result}
+use Rattle.words.specs.Answers.{Answer}
 use Rattle.words.specs.Facts.{Once}
+use Rattle.words.specs.Told.{told_by}
+use Rattle.words.specs.declared.answers.Refusal.{Refusal}
 use Rattle.tpmi_structure.specs.Structure.{numbers}
-use Rattle.tpmi_structure.specs.declared.structure.Decoded.{Decoded}
-use Rattle.tpmi_structure.specs.declared.structure.Decoded.TheVariants as decode
+use Rattle.tpmi_structure.specs.declared.structure.Vsec.{Vsec}
 
-abbrev pub told : Decoded → Answer
-told (decode.Structure v) = gives (numbers v)
-told (decode.Refused n) = refused n
+abbrev pub told : Result Vsec Refusal → Answer
+told = told_by numbers
 
 -- Two answers that say the same are the same.
 abbrev pub ToldOnce : Type 0

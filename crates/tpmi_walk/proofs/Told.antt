@@ -1,20 +1,9 @@
 -- Two answers of the walk that say the same are the same. Assumes nothing.
-use mathlib.Core.Path.{◌≡◌, refl}
+use mathlib.Core.Path.{refl}
+use mathlib.Core.List.{[], ◌∷◌}
 use lib.ListN.{get_or}
-use Rattle.words.specs.Answers.{Answer, refused, gives}
-use Rattle.words.proofs.AnswerLaws.{once}
-use Rattle.tpmi_walk.specs.Told.{told, ToldOnce}
-use Rattle.tpmi_walk.specs.declared.walk.Walked.{Walked}
-use Rattle.tpmi_walk.specs.declared.walk.Walked.TheVariants.{Taken, Refused}
-
-untold : Answer → Walked
-untold (refused n) = Refused n
-untold (gives l) = Taken (get_or l 0 0)
+use Rattle.words.proofs.Told.{once_by}
+use Rattle.tpmi_walk.specs.Told.{ToldOnce}
 
 pub told_once : ToldOnce
-unfolding untold
-told_once = once told untold back
-  where
-    back : (a : Walked) → untold (told a) ≡ a
-    back (Taken at) = refl
-    back (Refused n) = refl
+told_once = once_by (λ at. at ∷ []) (λ l. get_or l 0 0) (λ at. refl)

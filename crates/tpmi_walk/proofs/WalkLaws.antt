@@ -1,5 +1,5 @@
 -- The walk, header by header: the cases of each definition under its tests. Assumes nothing.
-use Prim.Native.Nat.{ℕ, zero, suc, ◌-◌, ◌%◌, ◌≤◌, ◌<◌}
+use Prim.Native.Nat.{ℕ, zero, suc, ◌%◌, ◌≤◌, ◌<◌}
 use mathlib.Core.Path.{◌≡◌, refl, sym, ap, ◌∙◌}
 use mathlib.Core.Bool.{Bool, true, false, cond, not, ◌&&◌, ◌||◌}
 use mathlib.Core.List.{List, [], ◌∷◌}
@@ -10,6 +10,7 @@ use borrow.Author.Tests.{lt-ltb, le-ltb, eq-eqb, ne_eqb}
 use lib.Dec.{ltb, eqb}
 use Rattle.words.specs.Answers.{Answer, refused, gives, unless}
 use Rattle.words.specs.Bytes.{number_at}
+use Rattle.fields.specs.Bits.{field}
 use Rattle.words.proofs.TestLaws.{as_must, not_as_must, or_skip, or_take, or_second}
 use Rattle.words.proofs.AnswerLaws.{first_skip, first_take, first_end}
 use Rattle.tpmi_structure.specs.Structure.{vsec_at, fixed_wrong}
@@ -53,6 +54,15 @@ module _ (s : List ℕ) (at : ℕ) where
 
   -- ---- any header
 
+  -- what is read of its first word is what the definition reads
+  pub identifier_read : {x y z : ℕ} → x ≡ number_at s at 4 → y ≡ x → z ≡ field 0 16 y → z ≡ identifier_at s at
+  unfolding identifier_at
+  identifier_read p q r = r ∙ ap (field 0 16) (q ∙ p)
+
+  pub next_read : {x y z : ℕ} → x ≡ number_at s at 4 → y ≡ x → z ≡ field 20 12 y → z ≡ next_at s at
+  unfolding next_at
+  next_read p q r = r ∙ ap (field 20 12) (q ∙ p)
+
   pub header_cut : identifier_at s at ≡ 0x000B → 4088 < at → header_at s at ≡ stops (refused 5)
   unfolding header_at
   header_cut i h = rw (eq-eqb _ _ i, lt-ltb _ _ h)
@@ -92,13 +102,9 @@ module _ (s : List ℕ) where
       ∙ sym (ap (λ (b : Bool). unless_empty b (walk_from s 960)) (or_skip _ (ne_eqb _ _ z) ∙ ne_eqb _ _ o))
 
   -- while headers are left, one is read: the walk stops there with its answer, or goes on with one header less
-  pub walk_turn : (left at : ℕ) → 0 < left → walk_from s left at ≡ onward (header_at s at) (walk_from s (left - 1))
+  pub walk_onward : (left less at : ℕ) {h : Header} {a : Answer} → walk_from s left at ≡ a → left ≡ suc less → header_at s at ≡ h → onward h (walk_from s less) ≡ a
   unfolding walk_from
-  walk_turn zero at h = absurd (not-suc-le-zero h)
-  walk_turn (suc left) at h = let e : left ≡ suc left - 1 = omega arith in ap (λ (k : ℕ). onward (header_at s at) (walk_from s k)) e
-
-  pub walk_onward : (left at : ℕ) {h : Header} {a : Answer} → walk_from s left at ≡ a → 0 < left → header_at s at ≡ h → onward h (walk_from s (left - 1)) ≡ a
-  walk_onward left at w p q = ap (λ (h : Header). onward h (walk_from s (left - 1))) (sym q) ∙ sym (walk_turn left at p) ∙ w
+  walk_onward left less at w p q = ap (λ (h : Header). onward h (walk_from s less)) (sym q) ∙ ap (λ (k : ℕ). walk_from s k at) (sym p) ∙ w
 
   pub walk_out : (left at : ℕ) → left ≤ 0 → walk_from s left at ≡ refused 4
   unfolding walk_from

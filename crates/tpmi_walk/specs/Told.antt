@@ -1,14 +1,14 @@
--- What each case of the walk's answer says in document 01's words.
+-- What the walk says in document 01's words.
 -- Assumes nothing.
-use Rattle.std.specs.Prelude.{[], ◌∷◌}
-use Rattle.words.specs.Answers.{Answer, refused, gives}
+use Rattle.std.specs.Prelude.{ℕ, [], ◌∷◌, Result}
+use Rattle.words.specs.Answers.{Answer}
 use Rattle.words.specs.Facts.{Once}
-use Rattle.tpmi_walk.specs.declared.walk.Walked.{Walked}
-use Rattle.tpmi_walk.specs.declared.walk.Walked.TheVariants.{Taken, Refused}
+use Rattle.words.specs.Told.{told_by}
+use Rattle.words.specs.declared.answers.Refusal.{Refusal}
 
-abbrev pub told : Walked → Answer
-told (Taken at) = gives (at ∷ [])
-told (Refused n) = refused n
+-- where the header that is taken stands
+abbrev pub told : Result ℕ Refusal → Answer
+told = told_by (λ at. at ∷ [])
 
 -- Two answers that say the same are the same.
 abbrev pub ToldOnce : Type 0

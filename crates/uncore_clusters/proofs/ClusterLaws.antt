@@ -1,23 +1,24 @@
 -- Clusters and the places of their registers, test by test and stage by stage, and what an answer tells. Assumes nothing.
 use Prim.Native.Nat.{ℕ, ◌+◌, ◌*◌, ◌-◌, ◌^◌, ◌%◌, ◌≤◌, ◌<◌}
-use mathlib.Core.Path.{◌≡◌, refl, sym, ap, ◌∙◌, subst}
+use mathlib.Core.Path.{◌≡◌, refl, sym, ap, ◌∙◌}
 use mathlib.Core.Bool.{Bool, true, false, cond}
 use mathlib.Core.List.{List, [], ◌∷◌}
 use mathlib.Core.Logic.{◌≢◌}
 use native.Mathlib.Omega.{arith}
 use native.Mathlib.Nat.{mul-le-mul}
 use borrow.Author.Tests.{lt-ltb, le-ltb, ltb-true, ltb-false, le-leb, lt-leb, leb-false}
+use lib.Count.{ones}
 use lib.Dec.{ltb}
 use lib.ListN.{length, get_or}
 use Rattle.words.specs.Answers.{refused, gives, unless, first}
 use Rattle.words.specs.Bytes.{AllBytes, number_at}
 use Rattle.words.proofs.AnswerLaws.{unless_gives, unless_refused, unless_passes, unless_stops, first_skip, first_take, first_end, first_zero, first_upto, staged_refused, staged_gives, staged_last}
-use Rattle.words.proofs.TestLaws.{or_skip, or_take, or_second, or_neither, and_skip, and_first, and_holds}
+use Rattle.words.proofs.TestLaws.{or_skip, or_take, or_second, or_neither, and_skip, and_first}
 use Rattle.words.proofs.NumberLaws.{number_lt}
 use Rattle.fields.specs.Bits.{field}
 use Rattle.fields.specs.Masks.{is_set}
 use Rattle.fields.proofs.FieldLaws.{field_lt}
-use Rattle.fields.proofs.MaskLaws.{many_le}
+use Rattle.fields.proofs.MaskLaws.{many_le, ones_many}
 use Rattle.fields.proofs.Shifts.{shr_out}
 use Rattle.uncore_clusters.specs.Clusters.{ones_in, clusters_in, fabric_number, fabric_of, start_in, place_of, unnamed, past, unread, place_number, place_in, content_in}
 
@@ -26,6 +27,11 @@ use Rattle.uncore_clusters.specs.Clusters.{ones_in, clusters_in, fabric_number, 
 pub ones_most : (x : ℕ) → ones_in x ≤ 64
 unfolding ones_in
 ones_most x = many_le (is_set x) 64
+
+-- the ones that the machine counts
+pub ones_counted : (x : ℕ) → x < 2 ^ 64 → ones x ≡ ones_in x
+unfolding ones_in
+ones_counted x h = ones_many x 64 h
 
 pub clusters_most : (s : List ℕ) → clusters_in s ≤ 64
 unfolding clusters_in
@@ -59,6 +65,9 @@ module _ (s : List ℕ) (die n : ℕ) where
 pub fabric_room : (die k : ℕ) → die ≤ 255 → k ≤ 64 → die * k ≤ 255 * 64
 fabric_room die k d h = mul-le-mul d h
 
+-- what the proof of `fabric_in` goes by
+pub ruleset fabric_ways = (clusters_most, fabric_room, fabric_die, fabric_cluster, fabric_known)
+
 -- ---- where registers stand
 
 -- there is no ninth byte
@@ -73,6 +82,9 @@ byte_lt p x e = omega (arith, e, field_lt p 8 x)
 pub start_most : (s : List ℕ) (n : ℕ) → start_in s n ≤ 2040
 unfolding start_in
 start_most s n = omega (arith, field_lt (n * 8) 8 (number_at s 8 8))
+
+-- what the proof of `start_in` goes by
+pub ruleset start_ways = (start_past, byte_lt)
 
 module _ (s : List ℕ) (n r : ℕ) where
   pub place_own : r < 2 → place_of s n r ≡ r * 8
@@ -93,10 +105,6 @@ module _ (s : List ℕ) (r : ℕ) where
   unread_cluster h = and_skip _ (le-leb 2 r h)
 
 module _ (s : List ℕ) (at : ℕ) where
-  pub past_end : length s < at + 8 → past s at ≡ true
-  unfolding past
-  past_end h = lt-ltb _ _ h
-
   pub not_past : at + 8 ≤ length s → past s at ≡ false
   unfolding past
   not_past h = le-ltb _ _ h
@@ -129,29 +137,12 @@ module _ (s : List ℕ) (n r : ℕ) where
     pub stood_there : {zs : List ℕ} → cond (past s 8) (refused 14) (gives (8 ∷ [])) ≡ gives zs → cond (unread s r) (refused 14) (gives (place_of s n r ∷ [])) ≡ gives ((start_in s n + (r - 2) * 8) ∷ [])
     stood_there e = stood (unread_cluster s r h ∙ (staged_gives (past s 8) 14 _ e).0) ∙ ap (λ (x : ℕ). gives (x ∷ [])) (place_cluster s n r h)
 
--- ---- the tests of 17
+-- what the proof of `stands` goes by
+pub ruleset stands_ways = (start_most, stood_own, stood_stops, stood_there)
+
+-- ---- what 17 tells
 
 module _ (s : List ℕ) (die n r : ℕ) where
-  pub no_register : 5 < r → unnamed s die n r ≡ true
-  unfolding unnamed
-  no_register h = or_take _ (lt-ltb _ _ h)
-
-  pub no_die : 255 < die → unnamed s die n r ≡ true
-  unfolding unnamed
-  no_die h = or_second (ltb 5 r) (or_take _ (lt-ltb _ _ h))
-
-  pub no_cluster : 2 ≤ r → clusters_in s ≤ n → unnamed s die n r ≡ true
-  unfolding unnamed
-  no_cluster k h = or_second (ltb 5 r) (or_second (ltb 255 die) (and_holds (le-leb _ _ k) (le-leb _ _ h)))
-
-  pub named_own : die ≤ 255 → r < 2 → unnamed s die n r ≡ false
-  unfolding unnamed
-  named_own d h = or_skip _ (le-ltb 5 r (omega arith)) ∙ or_skip _ (le-ltb _ _ d) ∙ and_first _ (lt-leb 2 r h)
-
-  pub named_cluster : r ≤ 5 → die ≤ 255 → 2 ≤ r → n < clusters_in s → unnamed s die n r ≡ false
-  unfolding unnamed
-  named_cluster l d k h = or_skip _ (le-ltb 5 r l) ∙ or_skip _ (le-ltb _ _ d) ∙ and_skip _ (le-leb 2 r k) ∙ lt-leb _ _ h
-
   pub register_small : unnamed s die n r ≡ false → r ≤ 5
   unfolding unnamed
   register_small e = ltb-false _ _ (or_neither (ltb 5 r) _ e).0
@@ -167,35 +158,31 @@ module _ (s : List ℕ) (die n r : ℕ) where
   unfolding place_in
   by_number e = ap (λ (k : ℕ). unless k (gives (place_of s n r ∷ []))) e
 
-  pub named_stops : {m : ℕ} → cond (unnamed s die n r) (refused 17) (gives (r ∷ [])) ≡ refused m → place_in s die n r ≡ refused m
+  pub named_stops : {m : ℕ} → cond (unnamed s die n r) (refused 17) (gives []) ≡ refused m → place_in s die n r ≡ refused m
   unfolding place_number
   named_stops e = let f = staged_refused (unnamed s die n r) 17 _ e in by_number (first_take _ _ f.0) ∙ ap refused f.1
 
-  module _ {q : ℕ} (k : cond (unnamed s die n r) (refused 17) (gives (r ∷ [])) ≡ gives (q ∷ [])) where
+  module _ (k : cond (unnamed s die n r) (refused 17) (gives []) ≡ gives []) where
     named : unnamed s die n r ≡ false
     named = (staged_gives (unnamed s die n r) 17 _ k).0
 
-    same : r ≡ q
-    same = one_given (staged_gives (unnamed s die n r) 17 _ k).1
+    pub named_small : r ≤ 5
+    named_small = register_small s die n r named
 
-    pub known_small : q ≤ 5
-    known_small = subst (λ (x : ℕ). x ≤ 5) same (register_small s die n r named)
-
-    pub stands_stops : {m : ℕ} → cond (unread s q) (refused 14) (gives (place_of s n q ∷ [])) ≡ refused m → place_in s die n r ≡ refused m
+    pub stands_stops : {m : ℕ} → cond (unread s r) (refused 14) (gives (place_of s n r ∷ [])) ≡ refused m → place_in s die n r ≡ refused m
     unfolding place_number
     stands_stops e =
-        let f = staged_refused (unread s q) 14 _ e in
-        by_number (first_skip _ _ named ∙ first_take _ _ (or_take _ (ap (unread s) same ∙ f.0))) ∙ ap refused f.1
+        let f = staged_refused (unread s r) 14 _ e in
+        by_number (first_skip _ _ named ∙ first_take _ _ (or_take _ f.0)) ∙ ap refused f.1
 
-    pub inside_last : {at : ℕ} → cond (unread s q) (refused 14) (gives (place_of s n q ∷ [])) ≡ gives (at ∷ [])
+    pub inside_last : {at : ℕ} → cond (unread s r) (refused 14) (gives (place_of s n r ∷ [])) ≡ gives (at ∷ [])
         → cond (past s at) (refused 14) (gives (at ∷ [])) ≡ place_in s die n r
     unfolding place_in place_number
     inside_last {at} e =
-        let f = staged_gives (unread s q) 14 _ e in
-        let is : at ≡ place_of s n r = sym (ap (place_of s n) same ∙ one_given f.1) in
-        ap (λ (x : ℕ). cond (past s x) (refused 14) (gives (x ∷ []))) is
+        let f = staged_gives (unread s r) 14 _ e in
+        ap (λ (x : ℕ). cond (past s x) (refused 14) (gives (x ∷ []))) (sym (one_given f.1))
         ∙ sym (staged_last (past s (place_of s n r)) 14 (place_of s n r ∷ []) (λ z. omega arith))
-        ∙ ap (λ (b : Bool). unless (first ((b, 14) ∷ [])) (gives (place_of s n r ∷ []))) (sym (or_skip _ (ap (unread s) same ∙ f.0)))
+        ∙ ap (λ (b : Bool). unless (first ((b, 14) ∷ [])) (gives (place_of s n r ∷ []))) (sym (or_skip _ f.0))
         ∙ ap (λ (x : ℕ). unless x (gives (place_of s n r ∷ []))) (sym (first_skip _ _ named))
 
   -- ---- what the answer tells
@@ -226,3 +213,8 @@ module _ (s : List ℕ) (die n r : ℕ) where
   pub place_inside : place_number s die n r ≡ 0 → place_of s n r + 8 ≤ length s
   unfolding place_number
   place_inside z = room s _ (or_neither (unread s r) _ (first_zero _ tt z).1.0).1
+
+-- what the proofs of `place_in` and `content_in` go by
+pub ruleset place_ways = (named_stops, named_small, stands_stops, inside_last)
+
+pub ruleset content_ways = (content_stops, content_there)

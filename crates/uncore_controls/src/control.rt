@@ -6,7 +6,7 @@ ghost use Rattle.uncore_controls.specs.Control.{control_of, written_of};
 
 use fields::bits::field;
 use fields::tables::word_of;
-use words::answers::Value;
+use words::answers::Refusal;
 
 // A reserved field is named by its lowest bit.
 #[derive(Clone, Copy)]
@@ -27,36 +27,43 @@ pub struct Control {
 }
 
 // The control that a register's content says.
-pub fn read(register: u64) -> Control
-    ensures answer { result ≡ control_of register }
-{
-    Control {
-        mode: field(register, 0, 2),
-        reserved2: field(register, 2, 6),
-        maximum: field(register, 8, 7),
-        minimum: field(register, 15, 7),
-        floor: field(register, 22, 7),
-        reserved29: field(register, 29, 3),
-        threshold: field(register, 32, 7),
-        reserved39: field(register, 39, 25),
+impl From<u64> for Control {
+    ghost from_gives = { λ register k. k ≡ control_of register };
+
+    #[tactic(auto, unfolding(crate::specs::Control::control_of))]
+    fn from(register: u64) -> Control {
+        Control {
+            mode: field(register, 0, 2),
+            reserved2: field(register, 2, 6),
+            maximum: field(register, 8, 7),
+            minimum: field(register, 15, 7),
+            floor: field(register, 22, 7),
+            reserved29: field(register, 29, 3),
+            threshold: field(register, 32, 7),
+            reserved39: field(register, 39, 25),
+        }
     }
 }
 
-// The register's content that says this control.
-pub fn write(k: Control) -> Value
-    ensures answer { told result ≡ written_of k }
-{
-    word_of(
-        &[2, 6, 7, 7, 7, 3, 7, 25],
-        &[
-            k.mode,
-            k.reserved2,
-            k.maximum,
-            k.minimum,
-            k.floor,
-            k.reserved29,
-            k.threshold,
-            k.reserved39,
-        ],
-    )
+// The register's content that says a control; 17 where a number does not fit its field.
+impl TryFrom<Control> for u64 {
+    type Error = Refusal;
+
+    ghost try_from_gives = { λ k r. told r ≡ written_of k };
+
+    fn try_from(k: Control) -> Result<u64, Refusal> {
+        word_of(
+            &[2, 6, 7, 7, 7, 3, 7, 25],
+            &[
+                k.mode,
+                k.reserved2,
+                k.maximum,
+                k.minimum,
+                k.floor,
+                k.reserved29,
+                k.threshold,
+                k.reserved39,
+            ],
+        )
+    }
 }

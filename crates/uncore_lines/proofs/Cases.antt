@@ -1,24 +1,17 @@
 -- Worked lines, each computed from what the registers hold to the bytes of the text. Assumes nothing.
-use Prim.Native.Char.{code}
 use Prim.Native.Nat.{ℕ, ◌-◌, ◌^◌}
-use Prim.Native.String as string
-use Prim.Native.String.{String}
 use mathlib.Core.Path.{◌≡◌, refl}
-use mathlib.Core.List.{List, [], ◌∷◌}
+use mathlib.Core.List.{[], ◌∷◌}
 use lib.ListN.{length}
 use Rattle.words.specs.Answers.{refused, gives}
 use Rattle.words.specs.Below.{least}
 use Rattle.fields.specs.Bits.{field}
 use Rattle.text.specs.Page.{joined}
 use Rattle.text.specs.Numerals.{digits, places_of}
+use Rattle.text.proofs.Spelled.{codes}
 use Rattle.uncore_registers.specs.Status.{status_of}
 use Rattle.uncore_controls.specs.Control.{control_of}
 use Rattle.uncore_lines.specs.ClockLines.{instance_runs, agents, cluster_runs, refused_runs}
-
--- a text as its characters' numbers
-codes : String → List ℕ
-codes string.[] = []
-codes (string.◌∷◌ c s) = code c ∷ codes s
 
 -- ---- instances: their clusters, all ones, another refusal
 

@@ -1,3 +1,2 @@
-pub mod ClockLaws
 pub mod LineFits
 pub mod Cases

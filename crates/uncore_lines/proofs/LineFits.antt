@@ -1,38 +1,31 @@
 -- The line of an instance, of a cluster and of one that is refused: how long they can be, and that a page so long shows them whole. Assumes
 -- nothing.
-use Prim.Native.Nat.{ℕ, ◌+◌, ◌≤◌}
-use mathlib.Core.Path.{◌≡◌}
+use Prim.Native.Nat.{ℕ, ◌≤◌}
 use mathlib.Core.Bool.{Bool, true, false, cond}
 use mathlib.Core.List.{List, [], ◌∷◌, ◌++◌}
 use lib.Dec.{eqb}
 use lib.ListN.{length, length-append}
 use native.Mathlib.Omega.{arith}
 use Rattle.words.specs.Told.{told}
-use Rattle.words.specs.declared.answers.Value.{Value}
-use Rattle.words.specs.declared.answers.Value.TheVariants.{Is, Refused}
+use Rattle.std.specs.Prelude.{Result, Ok, Err}
+use Rattle.words.specs.declared.answers.Refusal.{Refusal}
 use Rattle.text.specs.Page.{joined}
 use Rattle.text.specs.Numerals.{numeral_of}
 use Rattle.text.specs.Words.{line_feed, refused_word}
-use Rattle.text.proofs.LinesLaws.{number_short, refusal_short, line_fits}
+use Rattle.text.proofs.LinesLaws.{length_joined, number_short, refusal_short, line_fits}
 use Rattle.uncore_registers.specs.declared.status.Status.{Status}
 use Rattle.uncore_lines.specs.ClockLines.{invalid_word, ordered_words, proportional_words, reserved_words, agents_word, core_word, cache_word, memory_word, io_word, none_word, clusters_runs, throttle_words, agent_runs, agents, bare, agents_runs}
 use Rattle.uncore_lines.specs.Facts.{Sized, InstanceLineFact, ClusterLineFact, RefusedLineFact}
 
--- two texts, one after the other
-length_joined : (yss zss : List (List ℕ)) → length (joined (yss ++ zss)) ≡ length (joined yss) + length (joined zss)
-length_joined [] zss = omega arith
-length_joined (ys ∷ yss) zss =
-    omega (arith, length-append ys (joined (yss ++ zss)), length-append ys (joined yss), length_joined yss zss)
-
 -- ---- the line of an instance
 
-came_short : (v : Value) → Sized v → length (joined (clusters_runs (told v))) ≤ 30
-came_short (Is k) h = simp length-append (omega (arith, number_short k h))
-came_short (Refused n) h = by (eqb n 13)
+came_short : (v : Result ℕ Refusal) → Sized v → length (joined (clusters_runs (told v))) ≤ 30
+came_short (Ok k) h = simp length-append (omega (arith, number_short k h))
+came_short (Err r) h = by (eqb r.0 13)
   where
-    by : (b : Bool) → length (joined (cond b (invalid_word ∷ []) (refused_word ∷ numeral_of 10 n ∷ []))) ≤ 30
+    by : (b : Bool) → length (joined (cond b (invalid_word ∷ []) (refused_word ∷ numeral_of 10 r.0 ∷ []))) ≤ 30
     by true = omega arith
-    by false = simp length-append (omega (arith, refusal_short n h))
+    by false = simp length-append (omega (arith, refusal_short r.0 h))
 
 pub instance_line_fact : InstanceLineFact
 instance_line_fact i v hi hv =

@@ -6,13 +6,16 @@ use mathlib.Core.List.{List, [], ◌∷◌}
 use mathlib.Core.Logic.{◌≢◌}
 use native.Mathlib.Nat.{le_of_suc-le-suc, not-suc-le-zero}
 use native.Mathlib.Omega.{arith}
-use borrow.Author.Tests.{le-leb, leb-true, lt-leb, leb-false, eq-eqb, ne_eqb, eqb-false}
-use lib.Dec.{leb}
+use borrow.Author.Tests.{lt-ltb, le-ltb, le-leb, leb-true, lt-leb, leb-false, eq-eqb, ne_eqb, eqb-false}
+use lib.Dec.{ltb, leb}
 use lib.ListN.{length, get_or, get_or-eq_default}
 use Rattle.words.specs.Answers.{refused, gives, unless, first}
 use Rattle.words.proofs.AnswerLaws.{unless_gives, unless_refused, first_skip, first_take, first_end, first_zero}
 use Rattle.words.proofs.TestLaws.{and_first, and_second, and_holds, and_both}
-use Rattle.fields.specs.Bits.{field_stored}
+use Rattle.fields.specs.Bits.{field, field_stored}
+use Rattle.fields.proofs.WordLaws.{held_fits, held_wide}
+use Rattle.uncore_controls.specs.Control.{control_of}
+use Rattle.uncore_controls.specs.declared.control.Control.{Control}
 use Rattle.uncore_permits.specs.ControlFields.{rows, fields_of, lowest_of, width_of, extent_of, next_word, ratio, above, word_number, word_of}
 use Rattle.uncore_permits.specs.declared.control_fields.Extent.{Extent}
 
@@ -140,6 +143,44 @@ module _ (r which x value : ℕ) where
       pub word_ordered : above (next_word r which x value) ≡ false → word_of r which x value ≡ gives (next_word r which x value ∷ [])
       word_ordered h = right (and_second (ratio r which) h)
 
+  -- ---- the ways of the code: e is the field's extent, h what the field can hold of the value, y the next content
+
+  module _ {e : Extent} (q : e ≡ extent_of r which) where
+    wide : e.width ≡ width_of r which
+    wide = ap (λ (t : Extent). t.width) q
+
+    pub next_none : e.width ≡ 0 → word_of r which x value ≡ refused 27
+    next_none z = word_unwritable (sym wide ∙ z)
+
+    module _ (some : e.width ≢ 0) {h : ℕ} (f : h ≡ field 0 e.width value) where
+      has : width_of r which ≢ 0
+      has z = some (wide ∙ z)
+
+      pub next_wide : h ≢ value → word_of r which x value ≡ refused 17
+      next_wide d = word_wide has (rw (sym wide) (held_wide _ _ f d))
+
+      module _ (g : h ≡ value) {y : ℕ} (w : y ≡ field_stored 64 e.at e.width x value) where
+        narrow : value < 2 ^ width_of r which
+        narrow = rw (sym wide) (held_fits _ _ f g)
+
+        is : y ≡ next_word r which x value
+        is = w ∙ ap (λ (t : Extent). field_stored 64 t.at t.width x value) q ∙ stored_whole r which x value
+
+        pub next_other : ratio r which ≡ false → word_of r which x value ≡ gives (y ∷ [])
+        next_other a = rw is (word_other has narrow a)
+
+        -- the pair that the write would leave
+        module _ {k : Control} (c : k ≡ control_of y) where
+          judged : ltb k.maximum k.minimum ≡ above (next_word r which x value)
+          unfolding above
+          judged = ap (λ (t : Control). ltb t.maximum t.minimum) (c ∙ ap control_of is)
+
+          pub next_crossed : ratio r which ≡ true → k.maximum < k.minimum → word_of r which x value ≡ refused 28
+          next_crossed a l = word_crossed has narrow a (sym judged ∙ lt-ltb _ _ l)
+
+          pub next_ordered : k.minimum ≤ k.maximum → word_of r which x value ≡ gives (y ∷ [])
+          next_ordered l = rw is (word_ordered has narrow (sym judged ∙ le-ltb _ _ l))
+
   -- ---- what the answer tells
 
   pub word_given : {y : ℕ} → word_of r which x value ≡ gives (y ∷ []) → (word_number r which x value ≡ 0) × (next_word r which x value ≡ y)
@@ -160,3 +201,6 @@ module _ (r which x value : ℕ) where
   passed e =
       let f = first_zero _ tt e in
       record { writable = has_field r which (eqb-false _ _ f.0); narrow = leb-false _ _ f.1.0; ordered = f.1.1.0 }
+
+-- what the proof of `next_word` goes by
+pub ruleset next_ways = (next_none, next_wide, next_other, next_crossed, next_ordered)

@@ -6,10 +6,10 @@ ghost use Rattle.uncore_permits.specs.ControlFields.{extent_of, ratio, word_of};
 
 use fields::bits::{field, with_field};
 use uncore_clusters::clusters::{ADVANCED_1, ADVANCED_2, CONTROL};
-use uncore_controls::control::read;
-use words::answers::Value;
+use uncore_controls::control::Control;
+use words::answers::Refusal;
 
-// The fields of control by name.
+// The fields of control by name, and no enum: a call takes any number, and refuses the others with 27.
 pub const THROTTLE_MODE: u64 = 0;
 
 pub const MAX_RATIO: u64 = 1;
@@ -36,86 +36,52 @@ pub struct Extent {
     pub width: u32,
 }
 
-fn control_extent(which: u64) -> Extent
-    ensures answer { result ≡ extent_of 3 which }
-{
-    match which {
-        THROTTLE_MODE => Extent { at: 0, width: 2 },
-        MAX_RATIO => Extent { at: 8, width: 7 },
-        MIN_RATIO => Extent { at: 15, width: 7 },
-        EFFICIENCY_RATIO => Extent { at: 22, width: 7 },
-        EFFICIENCY_THRESHOLD => Extent { at: 32, width: 7 },
-        _ => Extent { at: 0, width: 0 },
-    }
-}
-
-fn first_extent(which: u64) -> Extent
-    ensures answer { result ≡ extent_of 4 which }
-{
-    match which {
-        SLOPE => Extent { at: 0, width: 8 },
-        BASE => Extent { at: 8, width: 8 },
-        _ => Extent { at: 0, width: 0 },
-    }
-}
-
-fn second_extent(which: u64) -> Extent
-    ensures answer { result ≡ extent_of 5 which }
-{
-    match which {
-        SLOPE => Extent { at: 0, width: 8 },
-        BASE => Extent { at: 8, width: 8 },
-        UTILIZATION_THRESHOLD => Extent { at: 16, width: 8 },
-        BANDWIDTH_THRESHOLD => Extent { at: 24, width: 8 },
-        _ => Extent { at: 0, width: 0 },
-    }
-}
-
 // Of the other registers no field can be written.
+#[tactic(auto, using(crate::proofs::FieldsLaws::none_past), unfolding(crate::specs::ControlFields::fields_of, crate::specs::ControlFields::lowest_of, crate::specs::ControlFields::width_of))]
 fn extent_of(r: u64, which: u64) -> Extent
     ensures answer { result ≡ extent_of r which }
 {
-    match r {
-        CONTROL => control_extent(which),
-        ADVANCED_1 => first_extent(which),
-        ADVANCED_2 => second_extent(which),
-        _ => Extent { at: 0, width: 0 },
-    }
+    let (at, width) = match (r, which) {
+        (CONTROL, THROTTLE_MODE) => (0, 2),
+        (CONTROL, MAX_RATIO) => (8, 7),
+        (CONTROL, MIN_RATIO) => (15, 7),
+        (CONTROL, EFFICIENCY_RATIO) => (22, 7),
+        (CONTROL, EFFICIENCY_THRESHOLD) => (32, 7),
+        (ADVANCED_1 | ADVANCED_2, SLOPE) => (0, 8),
+        (ADVANCED_1 | ADVANCED_2, BASE) => (8, 8),
+        (ADVANCED_2, UTILIZATION_THRESHOLD) => (16, 8),
+        (ADVANCED_2, BANDWIDTH_THRESHOLD) => (24, 8),
+        _ => (0, 0),
+    };
+    Extent { at, width }
 }
 
 // The field is MAX_RATIO or MIN_RATIO of control.
+#[tactic(auto, unfolding(crate::specs::ControlFields::ratio))]
 fn ratio(r: u64, which: u64) -> bool
     ensures answer { result ≡ ratio r which }
 {
-    if r != CONTROL {
-        return false;
-    }
-    if which == MAX_RATIO {
-        return true;
-    }
-    which == MIN_RATIO
+    r == CONTROL && matches!(which, MAX_RATIO | MIN_RATIO)
 }
 
 // What register r, which holds x, holds once `value` is written to its field: 27, 17, 28, or the content.
-pub fn next_word(r: u64, which: u64, x: u64, value: u64) -> Value
+#[tactic(auto, using(crate::proofs::FieldsLaws::next_ways))]
+pub fn next_word(r: u64, which: u64, x: u64, value: u64) -> Result<u64, Refusal>
     ensures answer { told result ≡ word_of r which x value }
 {
     let e = extent_of(r, which);
     if e.width == 0 {
-        return Value::Refused(27);
+        return Err(Refusal(27));
     }
     // A value is wider than its field where its low bits are not all of it.
     if field(value, 0, e.width) != value {
-        return Value::Refused(17);
+        return Err(Refusal(17));
     }
     let y = with_field(x, e.at, e.width, value);
     // The pair is judged as the write would leave it, and by a write of either ratio alone.
-    let top = read(y).maximum;
-    let bottom = read(y).minimum;
-    if ratio(r, which) {
-        if top < bottom {
-            return Value::Refused(28);
-        }
+    let pair = Control::from(y);
+    if ratio(r, which) && pair.maximum < pair.minimum {
+        return Err(Refusal(28));
     }
-    Value::Is(y)
+    Ok(y)
 }

@@ -6,7 +6,7 @@ ghost use Rattle.uncore_registers.specs.Header.{header_of, written_of};
 
 use fields::bits::field;
 use fields::tables::word_of;
-use words::answers::Value;
+use words::answers::Refusal;
 
 // A reserved field is named by its lowest bit.
 #[derive(Clone, Copy)]
@@ -25,34 +25,41 @@ pub struct Header {
 }
 
 // The header that a register's content says.
-pub fn read(register: u64) -> Header
-    ensures answer { result ≡ header_of register }
-{
-    Header {
-        version: field(register, 0, 8),
-        mask: field(register, 8, 8),
-        flags: field(register, 16, 16),
-        disabled: field(register, 32, 1),
-        fusion: field(register, 33, 1),
-        unit: field(register, 34, 2),
-        reserved36: field(register, 36, 28),
+impl From<u64> for Header {
+    ghost from_gives = { λ register h. h ≡ header_of register };
+
+    #[tactic(auto, unfolding(crate::specs::Header::header_of))]
+    fn from(register: u64) -> Header {
+        Header {
+            version: field(register, 0, 8),
+            mask: field(register, 8, 8),
+            flags: field(register, 16, 16),
+            disabled: field(register, 32, 1),
+            fusion: field(register, 33, 1),
+            unit: field(register, 34, 2),
+            reserved36: field(register, 36, 28),
+        }
     }
 }
 
-// The register's content that says this header.
-pub fn write(h: Header) -> Value
-    ensures answer { told result ≡ written_of h }
-{
-    word_of(
-        &[8, 8, 16, 1, 1, 2, 28],
-        &[
-            h.version,
-            h.mask,
-            h.flags,
-            h.disabled,
-            h.fusion,
-            h.unit,
-            h.reserved36,
-        ],
-    )
+// The register's content that says a header; 17 where a number does not fit its field.
+impl TryFrom<Header> for u64 {
+    type Error = Refusal;
+
+    ghost try_from_gives = { λ h r. told r ≡ written_of h };
+
+    fn try_from(h: Header) -> Result<u64, Refusal> {
+        word_of(
+            &[8, 8, 16, 1, 1, 2, 28],
+            &[
+                h.version,
+                h.mask,
+                h.flags,
+                h.disabled,
+                h.fusion,
+                h.unit,
+                h.reserved36,
+            ],
+        )
+    }
 }

@@ -6,7 +6,7 @@ ghost use Rattle.uncore_registers.specs.Status.{status_of, written_of};
 
 use fields::bits::field;
 use fields::tables::word_of;
-use words::answers::Value;
+use words::answers::Refusal;
 
 // A reserved field is named by its lowest bit.
 #[derive(Clone, Copy)]
@@ -26,36 +26,43 @@ pub struct Status {
 }
 
 // The status that a register's content says.
-pub fn read(register: u64) -> Status
-    ensures answer { result ≡ status_of register }
-{
-    Status {
-        ratio: field(register, 0, 7),
-        voltage: field(register, 7, 16),
-        core: field(register, 23, 1),
-        cache: field(register, 24, 1),
-        memory: field(register, 25, 1),
-        io: field(register, 26, 1),
-        reserved27: field(register, 27, 5),
-        throttled: field(register, 32, 32),
+impl From<u64> for Status {
+    ghost from_gives = { λ register t. t ≡ status_of register };
+
+    #[tactic(auto, unfolding(crate::specs::Status::status_of))]
+    fn from(register: u64) -> Status {
+        Status {
+            ratio: field(register, 0, 7),
+            voltage: field(register, 7, 16),
+            core: field(register, 23, 1),
+            cache: field(register, 24, 1),
+            memory: field(register, 25, 1),
+            io: field(register, 26, 1),
+            reserved27: field(register, 27, 5),
+            throttled: field(register, 32, 32),
+        }
     }
 }
 
-// The register's content that says this status.
-pub fn write(t: Status) -> Value
-    ensures answer { told result ≡ written_of t }
-{
-    word_of(
-        &[7, 16, 1, 1, 1, 1, 5, 32],
-        &[
-            t.ratio,
-            t.voltage,
-            t.core,
-            t.cache,
-            t.memory,
-            t.io,
-            t.reserved27,
-            t.throttled,
-        ],
-    )
+// The register's content that says a status; 17 where a number does not fit its field.
+impl TryFrom<Status> for u64 {
+    type Error = Refusal;
+
+    ghost try_from_gives = { λ t r. told r ≡ written_of t };
+
+    fn try_from(t: Status) -> Result<u64, Refusal> {
+        word_of(
+            &[7, 16, 1, 1, 1, 1, 5, 32],
+            &[
+                t.ratio,
+                t.voltage,
+                t.core,
+                t.cache,
+                t.memory,
+                t.io,
+                t.reserved27,
+                t.throttled,
+            ],
+        )
+    }
 }

@@ -5,7 +5,8 @@ use mathlib.Core.List.{List, [], ◌∷◌}
 use mathlib.Core.Logic.{◌≢◌}
 use borrow.Author.Tests.{eq-eqb, ne_eqb}
 use Rattle.words.specs.Answers.{refused, gives, number_in}
-use Rattle.words.proofs.AnswerLaws.{unless_passes}
+use Rattle.words.specs.Told.{passes}
+use Rattle.words.proofs.AnswerLaws.{unless_number, unless_passes}
 use Rattle.capture.specs.Capture.{Capture}
 use Rattle.capture.specs.Told.{numbers}
 use Rattle.capture.specs.declared.places.Place.{Place}
@@ -33,12 +34,12 @@ module _ (c : Capture) (i die n r which value : ℕ) where
   -- ---- a refused write
 
   pub refused_write : {m : ℕ} → next_for c i die n r which value ≡ refused m → m ≢ 0
-      → (m ≡ write_number c i die n r which value) × ((c.low ≡ (left c i die n r which value).low) × (c.high ≡ (left c i die n r which value).high))
+      → (refused m ≡ passes (write_number c i die n r which value)) × ((c.low ≡ (left c i die n r which value).low) × (c.high ≡ (left c i die n r which value).high))
   unfolding write_number
   refused_write e h =
       let q = ap number_in e in
       let k = sym (left_kept (λ z. h (sym q ∙ z))) in
-      (sym q, (ap (λ (d : Capture). d.low) k, ap (λ (d : Capture). d.high) k))
+      (sym (unless_number _ (gives []) h) ∙ ap passes (sym q), (ap (λ (d : Capture). d.low) k, ap (λ (d : Capture). d.high) k))
 
   -- ---- an instance that is found, at p
 
@@ -48,13 +49,13 @@ module _ (c : Capture) (i die n r which value : ℕ) where
     asked = unless_passes (next_of (instance_part c 2 i) die n r which value) (instance_at c 2 i found).zero
 
     pub refused_inside : {m : ℕ} → next_of (instance_part c 2 i) die n r which value ≡ refused m
-        → (m ≡ write_number c i die n r which value) × ((c.low ≡ (left c i die n r which value).low) × (c.high ≡ (left c i die n r which value).high))
+        → (refused m ≡ passes (write_number c i die n r which value)) × ((c.low ≡ (left c i die n r which value).low) × (c.high ≡ (left c i die n r which value).high))
     refused_inside e = refused_write (asked ∙ e) (stopped_by (instance_part c 2 i) die n r which value e).1
 
     -- a permitted write: the register stands at `at` of the instance, and x is its next content
     pub permitted_write : {at x : ℕ} → place_in (instance_part c 2 i) die n r ≡ gives (at ∷ []) → next_of (instance_part c 2 i) die n r which value ≡ gives (x ∷ [])
         → {ls hs : List ℕ} → ls ≡ low_with p at x c.lo c.low → hs ≡ high_with p at x c.lo c.hi c.high
-        → (0 ≡ write_number c i die n r which value) × ((ls ≡ (left c i die n r which value).low) × (hs ≡ (left c i die n r which value).high))
+        → (gives [] ≡ passes (write_number c i die n r which value)) × ((ls ≡ (left c i die n r which value).low) × (hs ≡ (left c i die n r which value).high))
     unfolding write_number
     permitted_write {at} {x} stands e l h =
         let accepted : write_number c i die n r which value ≡ 0 = ap number_in (asked ∙ e) in
@@ -62,7 +63,7 @@ module _ (c : Capture) (i die n r which value : ℕ) where
         let o = sym (placed (instance_part c 2 i) die n r stands).1 in
         let s = placed_store c 2 i (offset_for c i n r) x p found (in_size c 2 i (instance_at c 2 i found).zero (next_inside (instance_part c 2 i) die n r which value g.0)) in
         let k = ap (after_store c 2 i (offset_for c i n r)) (sym g.1) ∙ sym (left_stored accepted) in (
-          sym accepted,
+          ap passes (sym accepted),
           (
             l ∙ ap (λ (a : ℕ). low_with p a x c.lo c.low) o ∙ s.0 ∙ ap (λ (d : Capture). d.low) k,
             h ∙ ap (λ (a : ℕ). high_with p a x c.lo c.hi c.high) o ∙ s.1 ∙ ap (λ (d : Capture). d.high) k,

@@ -4,6 +4,7 @@ pub mod NumberLaws
 pub mod StoreLaws
 pub mod PartStores
 pub mod AnswerLaws
+pub mod DoneLaws
 pub mod BelowLaws
 pub mod Told
 pub mod Theorems

@@ -38,8 +38,8 @@ number_step xs at n i h l =
     rw (e, e')
 
 -- before the last turn of a read of up to 8 bytes there is room for one more
-pub number_room : (xs : List ℕ) → AllBytes xs → (at n i : ℕ) → n ≤ 8 → 0 < i → number_at xs at (n - i) < 256 ^ 7
-number_room xs b at n i h l = let e : n - i ≤ 7 = omega arith in lt_of_lt_of_le (number_lt xs b at (n - i)) (pow-le-pow_right (zero-lt-suc 255) e)
+pub number_room : (xs : List ℕ) → AllBytes xs → (at n i : ℕ) {x : ℕ} → x ≡ number_at xs at (n - i) → n ≤ 8 → 0 < i → x < 256 ^ 7
+number_room xs b at n i r h l = let e : n - i ≤ 7 = omega arith in lt_of_lt_of_le (read_lt xs b at (n - i) r) (pow-le-pow_right (zero-lt-suc 255) e)
 
 -- the same bytes give the same number
 pub number_same : (xs ys : List ℕ) (at n : ℕ) → ((k : ℕ) → at ≤ k → k < at + n → get_or xs k 0 ≡ get_or ys k 0) → number_at xs at n ≡ number_at ys at n

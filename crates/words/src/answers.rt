@@ -1,21 +1,18 @@
-// What a call answers that gives one number: the number, or a refusal. It stands beside `Answer` of the definitions, and every crate's
-// numbers, contents, codes and lengths come in it.
+// What a call answers that may refuse: a `Result` whose error is the refusal.
 ghost use Rattle.std.specs.Prelude.{◌≡◌};
-ghost use Rattle.words.specs.Answers.{number_in};
-ghost use Rattle.words.specs.Told.{told};
+ghost use Rattle.words.specs.Told.{refused_in};
 
-#[derive(Clone, Copy)]
-pub enum Value {
-    Is(u64),
-    Refused(u8),
-}
+// A refusal is its number alone. Every byte is one, and not the thirty of the table only: what says a refusal (`number_of`, the lines of
+// `report`) says each as it is.
+#[derive(Clone, Copy, Debug, PartialEq, Eq, Hash)]
+pub struct Refusal(pub u8);
 
-// The refusal's number, 0 where there is a value.
-pub fn number_of(came: Value) -> u8
-    ensures answer { result ≡ number_in (told came) }
+// The refusal's number, 0 where there is none.
+pub fn number_of<T: Copy>(came: Result<T, Refusal>) -> u8
+    ensures answer { result ≡ refused_in came }
 {
     match came {
-        Value::Is(_) => 0,
-        Value::Refused(n) => n,
+        Ok(_) => 0,
+        Err(refusal) => refusal.0,
     }
 }

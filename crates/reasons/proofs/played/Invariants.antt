@@ -1,6 +1,6 @@
--- `played` is safe: no more is played than there is. Assumes nothing.
-use Rattle.std.proofs.Common.{◌≤◌, length}
+-- `played` ends: each exchange takes five numbers at least. Assumes nothing.
+use Rattle.std.proofs.Common.{length}
 use Rattle.reasons.proofs.played.Given as goal
 
-abbrev pub invariant-loop : goal.invariant-loop
-invariant-loop g l = l.used ≤ length l.bytes
+abbrev pub decreases-loop-over : goal.decreases-loop-over
+decreases-loop-over g l = length l.rest

@@ -1,26 +1,22 @@
--- `energy_hall::hall::hall_total` meets its contract. The invariant: the sum is that of the channels passed, each at most 2^53 - 1.
--- The measure is what is left of the 64. Assumes nothing.
-use mathlib.Core.Path.{sym, ◌∙◌}
-use native.Mathlib.Omega.{arith}
-use lib.ListN.{get_or}
-use lib.Seq.{take_all}
-use Rattle.energy_channel.specs.Channel.{closed}
-use Rattle.energy_channel.proofs.ChannelLaws.{share_most}
-use Rattle.energy_hall.proofs.HallLaws.{shares_more, hall_17, hall_sum}
+-- `energy_hall::hall::hall_total` meets its contract: what is summed is each channel's share, in order. Assumes nothing.
+use Rattle.std.proofs.Common.{ℕ, [], ◌∷◌, ap, sym, ◌∙◌, arith, rules, tests}
+use Rattle.words.specs.Answers.{gives}
+use Rattle.std.proofs.lemmas.Iterator.{YieldsList-from_slice, YieldsList-from_map}
+use Rattle.std.proofs.lemmas.Iterator.Consumers.{sum_by_from_yields_List, fits_by_from_yields_list}
+use Rattle.energy_channel.specs.Channel.{share}
+use Rattle.energy_hall.proofs.HallLaws.{shares_summed, shares_most, hall_17, hall_sum}
 use Rattle.energy_hall.proofs.hall.hall_total.Goals as goal
 
 pub returns-then-unit-gt31 : goal.returns-then-unit-gt31
 returns-then-unit-gt31 c = record { answer = sym (hall_17 _ _ c.if-unit-gt31.true) }
 
-pub overflow_add-sum : goal.overflow_add-sum
-overflow_add-sum c = omega (arith, c.share-sum.ensures.answer, share_most c.args.unit (get_or c.args.channels c.loop-i.i closed))
-
-pub loop-i-preserved : goal.loop-i-preserved
-loop-i-preserved c = let m = share_most c.args.unit (get_or c.args.channels c.loop-i.i closed) in (
-  omega arith,
-  omega (arith, c.share-sum.ensures.answer, shares_more c.args.unit c.args.channels c.loop-i.i (omega arith)),
-  omega (arith, c.share-sum.ensures.answer, m),
-)
+pub sum-requires-clause-fits : goal.sum-requires-clause-fits
+sum-requires-clause-fits c = fits_by_from_yields_list (share c.args.unit) c.args.channels c.map.result _
+    (YieldsList-from_map _ (share c.args.unit) (YieldsList-from_slice c.args.channels cc) c.map.ensures.closure (λ x r q k. search (rules, tests)))
+    (omega (arith, shares_summed c.args.unit c.args.channels, shares_most c.args.unit c.args.channels))
 
 pub returns : goal.returns
-returns c = record { answer = sym (hall_sum c.args.channels c.args.unit c.if-unit-gt31.false ∙ rw (c.loop-i.invariant.1, take_all c.loop-i.i c.args.channels (omega arith))) }
+returns c =
+    let e = sum_by_from_yields_List (share c.args.unit) c.args.channels c.map.result c.sum.result c.sum.ensures.ran
+    (YieldsList-from_map _ (share c.args.unit) (YieldsList-from_slice c.args.channels cc) c.map.ensures.closure (λ x r q k. search (rules, tests))) in
+    record { answer = sym (hall_sum c.args.channels c.args.unit c.if-unit-gt31.false ∙ ap (λ (n : ℕ). gives (n ∷ [])) (shares_summed c.args.unit c.args.channels ∙ sym e)) }

@@ -1,15 +1,16 @@
--- `fields::tables::word_of` meets its contract. The loop's invariant: the fields from i on begin at place `at` and decide what is left, whether
--- a value does not fit, and the word. Assumes nothing.
-use Prim.Native.Nat.{◌+◌, ◌-◌, ◌≤◌}
+-- The loop of `fields::tables::word_of`: what the fields that are left make of the word is the answer. Assumes nothing.
+use Prim.Native.Nat.{◌≤◌}
 use mathlib.Core.Path.{◌≡◌}
-use lib.ListN.{length, drop}
-use Rattle.fields.specs.Tables.{with_fields, total, wider}
+use lib.ListN.{length}
+use Rattle.std.specs.Iterator.Adapters.{zip_first, zip_second}
+use Rattle.std.specs.Slice.Iter.{iter_rest}
+use Rattle.fields.specs.Tables.{written_word}
+use Rattle.fields.proofs.WordLaws.{rest_word}
 use Rattle.fields.proofs.tables.word_of.Given as goal
 
-abbrev pub invariant-loop-i : goal.invariant-loop-i
-invariant-loop-i l = (l.i ≤ length l.widths) × (l.at ≤ 64) × (l.at + total (drop l.i l.widths) ≡ total l.widths)
-    × (wider (drop l.i l.widths) (drop l.i l.values) ≡ wider l.widths l.values)
-    × (with_fields l.at (drop l.i l.widths) l.word (drop l.i l.values) ≡ with_fields 0 l.widths 0 l.values)
-
-abbrev pub decreases-loop-i : goal.decreases-loop-i
-decreases-loop-i l = length l.widths - l.i
+abbrev pub invariant-loop-width : goal.invariant-loop-width
+invariant-loop-width l = record {
+  inside : l.at ≤ 64;
+  pairs : length (iter_rest (zip_first l.width-iterator)) ≡ length (iter_rest (zip_second l.width-iterator));
+  rest : rest_word l.at l.word (iter_rest (zip_first l.width-iterator)) (iter_rest (zip_second l.width-iterator)) ≡ written_word l.widths l.values;
+}

@@ -1,46 +1,31 @@
 -- `list_lines::listing::listing_of` meets its contract: unreadable, or what discovery says of the capture. Assumes nothing.
-use Prim.Native.Nat.{ℕ}
-use mathlib.Core.Path.{◌≡◌, sym, ap, ap₂, ◌∙◌}
-use mathlib.Core.List.{List}
-use Rattle.words.specs.Answers.{refused, number_in}
-use Rattle.words.specs.Bytes.{number_at}
-use Rattle.capture.specs.Capture.{captured}
+use Rattle.std.specs.Prelude.{Err}
+use mathlib.Core.Path.{◌≡◌, sym, ap, ◌∙◌}
+use Rattle.words.proofs.DoneLaws.{the_err}
 use Rattle.tpmi_discovery.specs.Discovery.{discovery_of}
-use Rattle.tpmi_discovery.specs.Told.{told}
-use Rattle.list_input.specs.Layout.{config_in, low_in, high_in}
-use Rattle.list_lines.specs.Listing.{answers, capture_in}
-use Rattle.list_input.specs.Told as layout
-use Rattle.list_input.proofs.LayoutLaws.{LaidOut, not_laid, laid_out}
-use Rattle.list_lines.proofs.LineLaws.{says_unreadable, says_answer}
+use Rattle.list_lines.specs.Listing.{told, answers}
+use Rattle.list_lines.specs.declared.listing.Unlisted.{Unlisted}
+use Rattle.list_lines.specs.declared.listing.Unlisted.TheVariants.{Unreadable}
+use Rattle.list_lines.proofs.LineLaws.{says_unreadable, says_answer, not_held, held}
 use Rattle.list_lines.proofs.listing.listing_of.Goals as goal
 
--- the layout, and what discovery was asked
-laid : (c : goal.After-number_of) → LaidOut c.args.input.now c.in-Out.l
-laid c =
-    laid_out c.args.input.now (sym c.layout_of.ensures.answer ∙ ap layout.told c.in-Out.is)
+pub returns-in_err-capture : goal.returns-in_err-capture
+returns-in_err-capture c =
+    let none = c.in_err-capture.ensures.ok_part in
+    let value = rw none at c.in_err-capture.ensures.value in
+    let is : c.in_err-capture.field-0.0 ≡ Unreadable = cc in
+    record {
+      answer = ap told (the_err c.from_residual.result c.from_residual.ensures.1) ∙ ap (λ (u : Unlisted). told (Err u)) is
+          ∙ sym (says_unreadable c.args.input.now (not_held c.args.input.now c.capture_in.ensures.answer none));
+    }
 
-asked : (c : goal.After-number_of) → told c.discover-located.result ≡ discovery_of (capture_in c.args.input.now)
-asked c =
-    c.discover-located.ensures.answer ∙ ap₂ (λ (x : List ℕ) (k : ℕ). discovery_of (captured x k c.low_in.result.now c.in-Out.l.hi c.high_in.result.now)) c.config_in.ensures.part (laid c).lo
-    ∙ ap₂ (λ (x y : List ℕ). discovery_of (captured (config_in c.args.input.now) (number_at c.args.input.now 4096 1) x c.in-Out.l.hi y)) c.low_in.ensures.part c.high_in.ensures.part
-    ∙ ap (λ (k : ℕ). discovery_of (captured (config_in c.args.input.now) (number_at c.args.input.now 4096 1) (low_in c.args.input.now) k (high_in c.args.input.now))) (laid c).hi
-
--- the layout, and what discovery was asked
-laid_2 : (c : goal.In-Table) → LaidOut c.args.input.now c.in-Out.l
-laid_2 c =
-    laid_out c.args.input.now (sym c.layout_of.ensures.answer ∙ ap layout.told c.in-Out.is)
-
-asked_2 : (c : goal.In-Table) → told c.discover-located.result ≡ discovery_of (capture_in c.args.input.now)
-asked_2 c =
-    c.discover-located.ensures.answer ∙ ap₂ (λ (x : List ℕ) (k : ℕ). discovery_of (captured x k c.low_in.result.now c.in-Out.l.hi c.high_in.result.now)) c.config_in.ensures.part (laid_2 c).lo
-    ∙ ap₂ (λ (x y : List ℕ). discovery_of (captured (config_in c.args.input.now) (number_at c.args.input.now 4096 1) x c.in-Out.l.hi y)) c.low_in.ensures.part c.high_in.ensures.part
-    ∙ ap (λ (k : ℕ). discovery_of (captured (config_in c.args.input.now) (number_at c.args.input.now 4096 1) (low_in c.args.input.now) k (high_in c.args.input.now))) (laid_2 c).hi
-
-pub returns-in_default : goal.returns-in_default
-returns-in_default c = record { answer = sym (says_unreadable c.args.input.now (not_laid c.args.input.now (sym c.layout_of.ensures.answer ∙ ap layout.told c.in_default.is))) }
-
-pub returns-in_default-located : goal.returns-in_default-located
-returns-in_default-located c = let e = ap told c.in_default-located.is in record { answer = ap (λ (n : ℕ). answers (refused n)) (c.number_of.ensures.answer ∙ ap number_in e) ∙ ap answers (sym e ∙ asked c) ∙ sym (says_answer _ (laid c).reads) }
+pub returns-in_err-discover : goal.returns-in_err-discover
+returns-in_err-discover c = let h = held c.args.input.now c.capture_in.ensures.answer c.in_ok-capture.ensures.ok_part in record {
+  answer = ap told (the_err c.from_residual-in_err-discover.result c.from_residual-in_err-discover.ensures.1)
+      ∙ ap answers (c.in_err-discover.ensures.answer ∙ ap discovery_of h.1) ∙ sym (says_answer c.args.input.now h.0);
+}
 
 pub returns : goal.returns
-returns c = record { answer = ap answers (sym (ap told c.in-Table.is) ∙ asked_2 c) ∙ sym (says_answer _ (laid_2 c).reads) }
+returns c = let h = held c.args.input.now c.capture_in.ensures.answer c.in_ok-capture.ensures.ok_part in record {
+  answer = ap answers (c.in_ok-discover.ensures.answer ∙ ap discovery_of h.1) ∙ sym (says_answer c.args.input.now h.0);
+}

@@ -1,30 +1,20 @@
 -- `rapl_writes::next::next` meets its contract: the instance's refusal, or what is said of its bytes. Assumes nothing.
-use mathlib.Core.List.{List}
 use Prim.Native.Nat.{ℕ}
-use Rattle.words.specs.Answers.{Answer}
-use Rattle.capture.specs.Capture.{Capture, captured}
+use mathlib.Core.Path.{◌∙◌}
+use mathlib.Core.List.{List, [], ◌∷◌}
+use Rattle.words.proofs.DoneLaws as done
+use Rattle.capture.specs.Capture.{capture_of}
 use Rattle.tpmi_features.proofs.OrLaws.{handed_on, said_of}
 use Rattle.rapl_writes.specs.Next.{next_of, next_for}
 use Rattle.rapl_writes.proofs.next.next.Goals as goal
 
--- the capture, and what is asked of the instance's bytes
-abbrev capture : (c : goal.After-number_of) → Capture
-capture c = captured c.args.config.now c.args.lo c.args.low.now c.args.hi c.args.high.now
-
-abbrev asked : (c : goal.After-number_of) → List ℕ → Answer
-asked c s = next_of s c.args.n c.args.limit c.args.which c.args.value
-
--- the capture, and what is asked of the instance's bytes
-abbrev capture_2 : (c : goal.After-next_in) → Capture
-capture_2 c = captured c.args.config.now c.args.lo c.args.low.now c.args.hi c.args.high.now
-
-abbrev asked_2 : (c : goal.After-next_in) → List ℕ → Answer
-asked_2 c s = next_of s c.args.n c.args.limit c.args.which c.args.value
-
-pub returns-in_default : goal.returns-in_default
+pub returns-in_err-p : goal.returns-in_err-p
 unfolding next_for
-returns-in_default c = record { answer = handed_on (capture c) 0 _ (asked c) c.instance_place-found.ensures.answer c.in_default.is c.number_of.ensures.answer }
+returns-in_err-p c = record {
+  answer = done.handed_on (λ x. x ∷ []) c.from_residual.result c.from_residual.ensures.1
+      ∙ handed_on (capture_of c.args.capture) 0 _ (λ (s : List ℕ). next_of s c.args.n c.args.limit c.args.which c.args.value) c.in_err-p.ensures.answer;
+}
 
 pub returns : goal.returns
 unfolding next_for
-returns c = record { answer = said_of (capture_2 c) 0 _ (asked_2 c) c.instance_place-found.ensures.answer c.in-At.is c.part_of.ensures.part c.next_in.ensures.answer }
+returns c = record { answer = said_of (capture_of c.args.capture) 0 _ (λ (s : List ℕ). next_of s c.args.n c.args.limit c.args.which c.args.value) c.in_ok-p.ensures.answer c.part.ensures.part c.next_in.ensures.answer }

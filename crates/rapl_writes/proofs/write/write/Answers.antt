@@ -4,12 +4,14 @@ use Prim.Native.Nat.{ℕ, ◌≤◌}
 use mathlib.Core.Path.{◌≡◌, sym, ap, ◌∙◌}
 use mathlib.Core.List.{List, [], ◌∷◌}
 use native.Mathlib.Omega.{arith}
-use Rattle.words.specs.Answers.{Answer, gives, number_in}
+use Rattle.words.specs.Answers.{Answer, gives}
 use Rattle.words.proofs.AnswerLaws.{unless_passes}
+use Rattle.words.proofs.DoneLaws.{handed_on}
 use Rattle.capture.specs.Capture.{Capture, captured}
+use Rattle.capture.specs.Places.{part_of}
+use Rattle.capture.specs.Told.{numbers}
+use Rattle.capture.specs.declared.places.Place.{Place}
 use Rattle.tpmi_features.specs.Instances.{instance_of, instance_part}
-use Rattle.words.specs.Told as words
-use Rattle.capture.specs.Told.{numbers, told}
 use Rattle.tpmi_features.proofs.InstanceLaws.{instance_at}
 use Rattle.tpmi_features.proofs.InsideLaws.{part_at}
 use Rattle.tpmi_features.proofs.OrLaws.{refused_some, or_refused}
@@ -18,86 +20,49 @@ use Rattle.rapl_writes.proofs.NextLaws.{stopped_by}
 use Rattle.rapl_writes.proofs.WriteLaws.{refused_write, small, permitted_write}
 use Rattle.rapl_writes.proofs.write.write.Goals as goal
 
--- the capture as it was handed in, and what is asked of the instance's bytes
-abbrev capture : (c : goal.After-number_of) → Capture
-capture c = captured c.args.config.now c.args.lo c.args.low.now c.args.hi c.args.high.now
+-- what is said of the instance's bytes, as the part at the place that was found holds them
+shows : (a : Capture) (i n limit which value : ℕ) {p : Place} {s : List ℕ} {v : Answer} → instance_of a 0 i ≡ gives (numbers p) → s ≡ part_of p a.lo a.low a.hi a.high
+    → v ≡ next_of s n limit which value → next_of (instance_part a 0 i) n limit which value ≡ v
+shows a i n limit which value found part says = sym (says ∙ ap (λ (s : List ℕ). next_of s n limit which value) (part ∙ part_at a 0 i (instance_at a 0 i found)))
 
-abbrev asked : (c : goal.After-number_of) → List ℕ → Answer
-asked c s = next_of s c.args.n c.args.limit c.args.which c.args.value
+-- so the numbers of a permitted write are small
+bounds : (a : Capture) (i n limit which value : ℕ) {p : Place} {s : List ℕ} {x : ℕ} → instance_of a 0 i ≡ gives (numbers p) → s ≡ part_of p a.lo a.low a.hi a.high
+    → gives (x ∷ []) ≡ next_of s n limit which value → (n ≤ 255) × (limit ≤ 2)
+bounds a i n limit which value found part says = small a i n limit which value found (shows a i n limit which value found part says)
 
-abbrev asked_2 : (c : goal.After-number_of-in_default-shown) → List ℕ → Answer
-asked_2 c s = next_of s c.args.n c.args.limit c.args.which c.args.value
-
--- the capture as it was handed in, and what is asked of the instance's bytes
-abbrev capture_2 : (c : goal.After-number_of-in_default-shown) → Capture
-capture_2 c = captured c.args.config.now c.args.lo c.args.low.now c.args.hi c.args.high.now
-
--- where the instance stands, and what the next content is, or its refusal
-place : (c : goal.After-number_of-in_default-shown) → instance_of (capture_2 c) 0 c.args.i ≡ gives (numbers c.in-At.p)
-place c = sym c.instance_place-found.ensures.answer ∙ ap told c.in-At.is
-
-shows : (c : goal.After-number_of-in_default-shown) → asked_2 c (instance_part (capture_2 c) 0 c.args.i) ≡ words.told c.next_in-shown.result
-shows c =
-    sym (c.next_in-shown.ensures.answer ∙ ap (asked_2 c) (c.part_of.ensures.part ∙ part_at (capture_2 c) 0 _ (instance_at (capture_2 c) 0 _ (place c))))
-
--- the capture as it was handed in, and what is asked of the instance's bytes
-abbrev capture_3 : (c : goal.In-Is) → Capture
-capture_3 c = captured c.args.config.now c.args.lo c.args.low.now c.args.hi c.args.high.now
-
--- where the instance stands, and what the next content is, or its refusal
-place_2 : (c : goal.In-Is) → instance_of (capture_3 c) 0 c.args.i ≡ gives (numbers c.in-At.p)
-place_2 c = sym c.instance_place-found.ensures.answer ∙ ap told c.in-At.is
-
-abbrev asked_3 : (c : goal.In-Is) → List ℕ → Answer
-asked_3 c s = next_of s c.args.n c.args.limit c.args.which c.args.value
-
-shows_2 : (c : goal.In-Is) → asked_3 c (instance_part (capture_3 c) 0 c.args.i) ≡ words.told c.next_in-shown.result
-shows_2 c =
-    sym (c.next_in-shown.ensures.answer ∙ ap (asked_3 c) (c.part_of.ensures.part ∙ part_at (capture_3 c) 0 _ (instance_at (capture_3 c) 0 _ (place_2 c))))
-
-content : (c : goal.In-Is) → asked_3 c (instance_part (capture_3 c) 0 c.args.i) ≡ gives (c.in-Is.x ∷ [])
-content c = shows_2 c ∙ ap words.told c.in-Is.is
-
-bounds : (c : goal.In-Is) → (c.args.n ≤ 255) × (c.args.limit ≤ 2)
-bounds c = small (capture_3 c) _ _ _ _ _ (place_2 c) (content c)
-
--- the capture as it was handed in, and what is asked of the instance's bytes
-abbrev capture_4 : (c : goal.After-slice_known-4-1) → Capture
-capture_4 c = captured c.args.config.now c.args.lo c.args.low.now c.args.hi c.args.high.now
-
--- where the instance stands, and what the next content is, or its refusal
-place_3 : (c : goal.After-slice_known-4-1) → instance_of (capture_4 c) 0 c.args.i ≡ gives (numbers c.in-At.p)
-place_3 c = sym c.instance_place-found.ensures.answer ∙ ap told c.in-At.is
-
-abbrev asked_4 : (c : goal.After-slice_known-4-1) → List ℕ → Answer
-asked_4 c s = next_of s c.args.n c.args.limit c.args.which c.args.value
-
-shows_3 : (c : goal.After-slice_known-4-1) → asked_4 c (instance_part (capture_4 c) 0 c.args.i) ≡ words.told c.next_in-shown.result
-shows_3 c =
-    sym (c.next_in-shown.ensures.answer ∙ ap (asked_4 c) (c.part_of.ensures.part ∙ part_at (capture_4 c) 0 _ (instance_at (capture_4 c) 0 _ (place_3 c))))
-
-content_2 : (c : goal.After-slice_known-4-1) → asked_4 c (instance_part (capture_4 c) 0 c.args.i) ≡ gives (c.in-Is.x ∷ [])
-content_2 c = shows_3 c ∙ ap words.told c.in-Is.is
-
-pub returns-in_default : goal.returns-in_default
+pub returns-in_err-p : goal.returns-in_err-p
 unfolding next_for
-returns-in_default c = let e = ap told c.in_default.is in let r = sym c.instance_place-found.ensures.answer ∙ e in let w = refused_write (capture c) _ _ _ _ _ (or_refused (capture c) 0 _ (asked c) r) (refused_some (capture c) 0 _ r) in record { answer = c.number_of.ensures.answer ∙ ap number_in e ∙ w.0; in_low = w.1.0; in_high = w.1.1 }
+returns-in_err-p c =
+    let a = captured c.args.config.now c.args.lo c.args.low.now c.args.hi c.args.high.now in
+    let r = sym c.in_err-p.ensures.answer in
+    let w = refused_write a _ _ _ _ _ (or_refused a 0 _ (λ (s : List ℕ). next_of s c.args.n c.args.limit c.args.which c.args.value) r) (refused_some a 0 _ r) in
+    record { answer = handed_on (λ u. []) c.from_residual.result c.from_residual.ensures.1 ∙ w.0; in_low = w.1.0; in_high = w.1.1 }
 
-pub returns-in_default-shown : goal.returns-in_default-shown
+pub returns-in_err-x : goal.returns-in_err-x
 unfolding next_for
-returns-in_default-shown c = let e = ap words.told c.in_default-shown.is in let r = shows c ∙ e in let w = refused_write (capture_2 c) _ _ _ _ _ (unless_passes _ (instance_at (capture_2 c) 0 _ (place c)).zero ∙ r) (stopped_by _ _ _ _ _ r).1 in record { answer = c.number_of-in_default-shown.ensures.answer ∙ ap number_in e ∙ w.0; in_low = w.1.0; in_high = w.1.1 }
+returns-in_err-x c =
+    let a = captured c.args.config.now c.args.lo c.args.low.now c.args.hi c.args.high.now in
+    let found = sym c.in_ok-p.ensures.answer in
+    let r = shows a c.args.i c.args.n c.args.limit c.args.which c.args.value found c.part.ensures.part c.in_err-x.ensures.answer in
+    let w = refused_write a _ _ _ _ _ (unless_passes _ (instance_at a 0 _ found).zero ∙ r) (stopped_by _ _ _ _ _ r).1 in
+    record { answer = handed_on (λ u. []) c.from_residual-in_err-x.result c.from_residual-in_err-x.ensures.1 ∙ w.0; in_low = w.1.0; in_high = w.1.1 }
 
 pub overflow_mul-offset : goal.overflow_mul-offset
-overflow_mul-offset c = omega (arith, (bounds c).0)
+overflow_mul-offset c = let b = bounds (captured c.args.config.now c.args.lo c.args.low.now c.args.hi c.args.high.now) c.args.i c.args.n c.args.limit c.args.which c.args.value (sym c.in_ok-p.ensures.answer) c.part.ensures.part c.in_ok-x.ensures.answer in omega (arith, b.0)
 
 pub overflow_add-offset : goal.overflow_add-offset
-overflow_add-offset c = omega (arith, (bounds c).1)
+overflow_add-offset c = let b = bounds (captured c.args.config.now c.args.lo c.args.low.now c.args.hi c.args.high.now) c.args.i c.args.n c.args.limit c.args.which c.args.value (sym c.in_ok-p.ensures.answer) c.part.ensures.part c.in_ok-x.ensures.answer in omega (arith, b.1)
 
 pub overflow_mul-offset-2 : goal.overflow_mul-offset-2
-overflow_mul-offset-2 c = omega (arith, (bounds c).1)
+overflow_mul-offset-2 c = let b = bounds (captured c.args.config.now c.args.lo c.args.low.now c.args.hi c.args.high.now) c.args.i c.args.n c.args.limit c.args.which c.args.value (sym c.in_ok-p.ensures.answer) c.part.ensures.part c.in_ok-x.ensures.answer in omega (arith, b.1)
 
 pub overflow_add-offset-2 : goal.overflow_add-offset-2
-overflow_add-offset-2 c = omega (arith, (bounds c).0, (bounds c).1)
+overflow_add-offset-2 c = let b = bounds (captured c.args.config.now c.args.lo c.args.low.now c.args.hi c.args.high.now) c.args.i c.args.n c.args.limit c.args.which c.args.value (sym c.in_ok-p.ensures.answer) c.part.ensures.part c.in_ok-x.ensures.answer in omega (arith, b.0, b.1)
 
 pub returns : goal.returns
-returns c = let e = permitted_write (capture_4 c) _ _ _ _ _ (place_3 c) (content_2 c) c.store.ensures.in_low c.store.ensures.in_high in record { answer = e.0; in_low = e.1.0; in_high = e.1.1 }
+returns c =
+    let a = captured c.args.config.now c.args.lo c.args.low.now c.args.hi c.args.high.now in
+    let found = sym c.in_ok-p.ensures.answer in
+    let r = shows a c.args.i c.args.n c.args.limit c.args.which c.args.value found c.part.ensures.part c.in_ok-x.ensures.answer in
+    let e = permitted_write a _ _ _ _ _ found r c.store.ensures.in_low c.store.ensures.in_high in
+    record { answer = e.0; in_low = e.1.0; in_high = e.1.1 }

@@ -1,6 +1,6 @@
 -- `records_body::body::numbers` meets its contract. The invariant: the numbers so far, and those of the widths from i on at place `at`, are all of
--- them. The measure is 8 - i. Assumes nothing.
-use Prim.Native.Nat.{◌+◌, ◌-◌, ◌*◌, ◌≤◌}
+-- them. Assumes nothing.
+use Prim.Native.Nat.{◌+◌, ◌*◌, ◌≤◌}
 use mathlib.Core.Path.{◌≡◌}
 use mathlib.Core.List.{◌++◌}
 use lib.ListN.{length, take, drop}
@@ -8,8 +8,4 @@ use Rattle.records_body.specs.Body.{numbers_at}
 use Rattle.records_body.proofs.body.numbers.Given as goal
 
 abbrev pub invariant-loop-i : goal.invariant-loop-i
-invariant-loop-i l = (l.i ≤ 8) × (l.at ≤ 1 + l.i * 8) × (length l.values ≡ 8)
-    × (take l.i l.values ++ numbers_at (drop l.i l.widths) l.bytes l.at ≡ numbers_at l.widths l.bytes 1)
-
-abbrev pub decreases-loop-i : goal.decreases-loop-i
-decreases-loop-i l = 8 - l.i
+invariant-loop-i l = (l.at ≤ 1 + l.i * 8) × (length l.values ≡ 8) × (take l.i l.values ++ numbers_at (drop l.i l.fn.widths) l.bytes l.at ≡ numbers_at l.fn.widths l.bytes 1)

@@ -6,4 +6,4 @@ use Rattle.replay_steps.proofs.StepLaws.{ended}
 use Rattle.replay_steps.proofs.steps.ended.Goals as goal
 
 pub returns : goal.returns
-returns c = record { answer = c.standing.ensures.answer ∙ ended (reader_of c.args.s) _ c.ended-p.ensures.answer }
+returns c = record { answer = c.standing.ensures.answer ∙ ended (reader_of c.args.s) _ c.ended-partial.ensures.answer }

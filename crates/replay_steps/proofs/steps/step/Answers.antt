@@ -8,10 +8,10 @@ use Rattle.replay_steps.proofs.steps.step.Goals as goal
 
 -- a whole record has at most 32 bytes and ends within the limit
 pub done-requires : goal.done-requires
-done-requires c = small (reader_of c.args.s) c.args.piece.now _ c.gather-g.ensures.answer c.if-g.true
+done-requires c = small (reader_of c.args.s) c.args.piece.now _ c.gather-gathered.ensures.answer c.if-gathered.true
 
-pub returns-then-g : goal.returns-then-g
-returns-then-g c = record { answer = c.done.ensures.answer ∙ step_came (reader_of c.args.s) c.args.piece.now _ c.gather-g.ensures.answer true c.if-g.true }
+pub returns-then-gathered : goal.returns-then-gathered
+returns-then-gathered c = record { answer = c.done.ensures.answer ∙ step_came (reader_of c.args.s) c.args.piece.now _ c.gather-gathered.ensures.answer true c.if-gathered.true }
 
-pub returns : goal.returns
-returns c = record { answer = c.standing.ensures.answer ∙ step_came (reader_of c.args.s) c.args.piece.now _ c.gather-g.ensures.answer false c.if-g.false }
+pub returns-else-gathered : goal.returns-else-gathered
+returns-else-gathered c = record { answer = c.standing.ensures.answer ∙ step_came (reader_of c.args.s) c.args.piece.now _ c.gather-gathered.ensures.answer false c.if-gathered.false }

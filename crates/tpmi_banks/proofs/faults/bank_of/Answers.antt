@@ -3,6 +3,6 @@ use mathlib.Core.Path.{refl}
 use Rattle.tpmi_banks.specs.Faults.{bank_of}
 use Rattle.tpmi_banks.proofs.faults.bank_of.Goals as goal
 
-pub returns : goal.returns
+pub returns-clause-answer : goal.returns-clause-answer
 unfolding bank_of
-returns c = record { answer = refl }
+returns-clause-answer c = refl

@@ -9,5 +9,5 @@ use Rattle.tpmi_entries.proofs.entry.read.Goals as goal
 pub returns-then-part-lt8 : goal.returns-then-part-lt8
 returns-then-part-lt8 c = record { answer = sym (read_short c.args.part.now c.if-part-lt8.true) }
 
-pub returns : goal.returns
-returns c = record { answer = ap (λ (e : Entry). gives (values e)) c.entry_at.ensures.answer ∙ sym (read_right c.args.part.now c.if-part-lt8.false) }
+pub returns-else-part-lt8 : goal.returns-else-part-lt8
+returns-else-part-lt8 c = record { answer = ap (λ (e : Entry). gives (values e)) c.entry_at.ensures.answer ∙ sym (read_right c.args.part.now c.if-part-lt8.false) }

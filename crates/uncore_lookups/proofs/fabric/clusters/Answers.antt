@@ -1,32 +1,22 @@
 -- `uncore_lookups::fabric::clusters` meets its contract: the instance's refusal, or what is said of its bytes. Assumes nothing.
 use Prim.Native.Nat.{ℕ}
-use mathlib.Core.Path.{ap}
+use mathlib.Core.Path.{ap, ◌∙◌}
 use mathlib.Core.List.{List, [], ◌∷◌}
-use Rattle.words.specs.Answers.{Answer, gives}
-use Rattle.capture.specs.Capture.{Capture, captured}
+use Rattle.words.specs.Answers.{gives}
+use Rattle.words.proofs.DoneLaws as done
+use Rattle.capture.specs.Capture.{capture_of}
 use Rattle.uncore_clusters.specs.Clusters.{clusters_in}
 use Rattle.uncore_lookups.specs.Fabric.{clusters_for}
 use Rattle.tpmi_features.proofs.OrLaws.{handed_on, said_of}
 use Rattle.uncore_lookups.proofs.fabric.clusters.Goals as goal
 
--- the capture, and what is asked of the instance's bytes
-abbrev capture : (c : goal.After-number_of) → Capture
-capture c = captured c.args.config.now c.args.lo c.args.low.now c.args.hi c.args.high.now
-
-abbrev asked : (c : goal.After-number_of) → List ℕ → Answer
-asked c s = gives (clusters_in s ∷ [])
-
--- the capture, and what is asked of the instance's bytes
-abbrev capture_2 : (c : goal.After-clusters_in) → Capture
-capture_2 c = captured c.args.config.now c.args.lo c.args.low.now c.args.hi c.args.high.now
-
-abbrev asked_2 : (c : goal.After-clusters_in) → List ℕ → Answer
-asked_2 c s = gives (clusters_in s ∷ [])
-
-pub returns-in_default : goal.returns-in_default
+pub returns-in_err-p : goal.returns-in_err-p
 unfolding clusters_for
-returns-in_default c = record { answer = handed_on (capture c) 2 _ (asked c) c.instance_place-found.ensures.answer c.in_default.is c.number_of.ensures.answer }
+returns-in_err-p c = record {
+  answer = done.handed_on (λ x. x ∷ []) c.from_residual.result c.from_residual.ensures.1
+      ∙ handed_on (capture_of c.args.capture) 2 _ (λ (s : List ℕ). gives (clusters_in s ∷ [])) c.in_err-p.ensures.answer;
+}
 
 pub returns : goal.returns
 unfolding clusters_for
-returns c = record { answer = said_of (capture_2 c) 2 _ (asked_2 c) c.instance_place-found.ensures.answer c.in-At.is c.part_of.ensures.part (ap (λ (x : ℕ). gives (x ∷ [])) c.clusters_in.ensures.answer) }
+returns c = record { answer = said_of (capture_of c.args.capture) 2 _ (λ (s : List ℕ). gives (clusters_in s ∷ [])) c.in_ok-p.ensures.answer c.part.ensures.part (ap (λ (x : ℕ). gives (x ∷ [])) c.clusters_in.ensures.answer) }

@@ -8,4 +8,8 @@ use Rattle.words.proofs.NumberLaws.{number_from, number_halves}
 use Rattle.words.proofs.bytes.u64_at.Goals as goal
 
 pub returns : goal.returns
-returns c = let there : c.at_or_end-from.result ≡ min c.args.at (length c.args.s.now) = c.at_or_end-from.ensures.answer in let low_read : c.u32_at-low.result ≡ number_at c.args.s.now c.at_or_end-from.result 4 = c.u32_at-low.ensures.answer in let high_read : c.u32_at-high.result ≡ number_at c.args.s.now (c.at_or_end-from.result + 4) 4 = c.u32_at-high.ensures.answer in record { answer = number_halves c.args.s.now c.at_or_end-from.result high_read low_read (omega arith) ∙ number_from c.args.s.now c.args.at 8 there }
+returns c =
+    let there : c.min-from.result ≡ min c.args.at (length c.args.s.now) = c.min-from.ensures in
+    let low_read : c.from-low.result ≡ number_at c.args.s.now c.min-from.result 4 = c.from-low.ensures ∙ c.u32_at.ensures.answer in
+    let high_read : c.from-high.result ≡ number_at c.args.s.now (c.min-from.result + 4) 4 = c.from-high.ensures ∙ c.u32_at-2.ensures.answer in
+    record { answer = number_halves c.args.s.now c.min-from.result high_read low_read (omega arith) ∙ number_from c.args.s.now c.args.at 8 there }
