@@ -3,10 +3,11 @@ ghost use Rattle.std.specs.Prelude.{◌≡◌};
 ghost use Rattle.capture.specs.Capture.{capture_of};
 ghost use Rattle.capture.specs.Places.{bar_in, part_in, piece};
 
-// A configuration space, and two BAR captures, each with its number.
+// A configuration space, and two BAR captures, each with its number. The configuration space has a lifetime of its own: what is handed back as
+// a part lies in a BAR capture, and may outlive it.
 #[derive(Clone, Copy)]
-pub struct Capture<'a> {
-    pub config: &'a [u8],
+pub struct Capture<'c, 'a> {
+    pub config: &'c [u8],
     pub lo: u8,
     pub low: &'a [u8],
     pub hi: u8,
@@ -37,7 +38,7 @@ fn piece(s: &[u8], start: usize, size: usize) -> &[u8]
     &s[start..end]
 }
 
-impl<'a> Capture<'a> {
+impl<'a> Capture<'_, 'a> {
     // The BAR capture with the number `bir`; the empty part where it is neither of the two.
     pub fn bar(self, bir: u8) -> &'a [u8]
         ensures part { result.now ≡ bar_in (capture_of self.entry) bir }

@@ -38,7 +38,7 @@ pub fn number_of(listing: Result<Table, Unlisted>) -> u8
 }
 
 // The capture that a readable input holds.
-fn capture_in(input: &[u8]) -> Option<Capture<'_>>
+fn capture_in(input: &[u8]) -> Option<Capture<'_, '_>>
     ensures answer { MatchOption result (readable input.now ≡ false) (λ c. (readable input.now ≡ true) × (capture_of c ≡ capture_in input.now)) }
 {
     let l = layout_of(input)?;

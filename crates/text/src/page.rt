@@ -26,6 +26,13 @@ impl<'a> Page<'a> {
     pub fn shown(&self) -> &[u8]
         ensures part { result.now ≡ take self.now.at self.now.bytes.now }
     {
-        self.bytes.get(..self.at).unwrap_or(self.bytes)
+        shown(self.bytes, self.at)
     }
+}
+
+// The same of bytes that are lent to be read alone: what stands before place `at`.
+pub fn shown(page: &[u8], at: usize) -> &[u8]
+    ensures part { result.now ≡ take at page.now }
+{
+    page.get(..at).unwrap_or(page)
 }

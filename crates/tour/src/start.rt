@@ -19,7 +19,7 @@ pub(crate) fn set(config: &mut [u8], high: &mut [u8]) {
     store_u64(high, 6104, 0xA383);
 }
 
-pub(crate) fn capture<'a>(config: &'a [u8], low: &'a [u8], high: &'a [u8]) -> Capture<'a> {
+pub(crate) fn capture<'a>(config: &'a [u8], low: &'a [u8], high: &'a [u8]) -> Capture<'a, 'a> {
     Capture {
         config,
         lo: 0,

@@ -78,7 +78,7 @@ pub fn instance_place(capture: Capture, id: u64, n: u64) -> Result<Place, Refusa
 }
 
 // The bytes of an instance, a part of the BAR capture that tBIR names; the empty part where it is refused.
-pub fn instance<'a>(capture: Capture<'a>, id: u64, n: u64) -> &'a [u8]
+pub fn instance<'a>(capture: Capture<'_, 'a>, id: u64, n: u64) -> &'a [u8]
     ensures part { result.now ≡ instance_part (capture_of capture.entry) id n }
 {
     match instance_place(capture, id, n) {
