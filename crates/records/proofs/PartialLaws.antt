@@ -142,9 +142,10 @@ gathered_none u p [] e = refl
 gathered_none u p (b ∷ bs) e = cc
 
 module _ (u : Rule) (n : ℕ) (p : Partial) where
-  gathered_end : gathered u n p [] ≡ record { partial = p; used = n; whole = false }
+  pub gathered_end : (bs : List ℕ) → length bs ≡ 0 → record { partial = p; used = n; whole = false } ≡ gathered u n p bs
   unfolding gathered
-  gathered_end = refl
+  gathered_end [] e = refl
+  gathered_end (b ∷ bs) e = absurd (omega (arith, e))
 
   gathered_whole : (b : ℕ) (bs : List ℕ) → is_whole u (took_of u p b) ≡ true
       → gathered u n p (b ∷ bs) ≡ record { partial = took_of u p b; used = suc n; whole = true }
@@ -220,7 +221,7 @@ module _ (u : Rule) (place n : ℕ) (few : n ≤ 32) (fits : place + n ≤ u.lim
       → gathered u i (going place h bs) xs ≡ holding place (h + k) (take h bs ++ (take k xs ++ drop (h + k) bs)) (i + k) (eqb (h + k) n)
   goes_on [] i h bs k e room more long =
       let z : k ≡ 0 = omega arith in
-      gathered_end u i (going place h bs)
+      sym (gathered_end u i (going place h bs) [] refl)
       ∙ rw (z, add-zero) (same refl (sym (take-append-drop h bs)) (omega arith) (sym (ne_eqb h n (λ x. omega (arith, x)))))
   goes_on (x ∷ xs) i h bs k e room more long =
       by (decide (h + 1) n) (λ l z. goes_on xs (suc i) (h + 1) (set bs h x) (k - 1) (omega arith) (length-set bs h x ∙ room) l z)

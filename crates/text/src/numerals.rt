@@ -58,19 +58,26 @@ impl<'a> Page<'a> {
         self.numeral(n, 16);
     }
 
+    // Words and, after them, the digits of `n`.
+    fn worded(&mut self, words: &[u8], n: u64, base: u64)
+        requires { (1 < base) × (base ≤ 16) }
+        ensures wrote { Wrote self.old self.new (words.now ∷ numeral_of base n ∷ []) }
+    {
+        self.put(words);
+        self.numeral(n, base);
+    }
+
     // Words and, after them, a number in decimal.
     pub fn labelled(&mut self, words: &[u8], n: u64)
         ensures wrote { Wrote self.old self.new (words.now ∷ numeral_of 10 n ∷ []) }
     {
-        self.put(words);
-        self.decimal(n);
+        self.worded(words, n, 10);
     }
 
     // Words and, after them, a number in hexadecimal.
     pub fn labelled_hex(&mut self, words: &[u8], n: u64)
         ensures wrote { Wrote self.old self.new (words.now ∷ numeral_of 16 n ∷ []) }
     {
-        self.put(words);
-        self.hex(n);
+        self.worded(words, n, 16);
     }
 }

@@ -91,11 +91,11 @@ pub fn cluster_line(page: &mut Page, n: u64, start: u64, t: Status, k: Control)
     page.put(b"\n");
 }
 
-// The line of local cluster n where a lookup of its registers is refused.
-pub fn refused_line(page: &mut Page, n: u64, refusal: Refusal)
-    ensures wrote { Wrote page.old page.new (refused_runs n refusal.0) }
+// The line of a local cluster where a lookup of its registers is refused.
+pub fn refused_line(page: &mut Page, cluster: u64, refusal: Refusal)
+    ensures wrote { Wrote page.old page.new (refused_runs cluster refusal.0) }
 {
-    page.labelled(b"cluster ", n);
+    page.labelled(b"cluster ", cluster);
     page.labelled(b" refused ", u64::from(refusal.0));
     page.put(b"\n");
 }
