@@ -10,13 +10,17 @@ use rapl_chains::chains::chain_in;
 use rapl_domains::domains::{Header, domain_in};
 use rapl_registers::contents::register_in;
 use tpmi_features::instances::instance_place;
-use words::answers::Refusal;
+use words::answers::{Refusal, number_of};
 
-// Domain n of instance i.
+// Domain n of instance i. The instance's refusal, 13 and those before it, is a stage of this lookup as 12, 15 and 16 are: taken apart by
+// `let .. else` and returned at once, a form that document 01 prescribes for it.
 pub fn domain(capture: Capture, i: u64, n: u64) -> Result<Header, Refusal>
     ensures answer { told result ≡ domain_for (capture_of capture.entry) i n }
 {
-    let p = instance_place(capture, 0, i)?;
+    let placed = instance_place(capture, 0, i);
+    let Ok(p) = placed else {
+        return Err(Refusal(number_of(placed)));
+    };
     domain_in(capture.part(p), n)
 }
 
