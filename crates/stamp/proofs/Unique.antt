@@ -52,6 +52,7 @@ pub text_unique : TextUnique
 text_unique =
     record {
       put = λ κs a x y s t p q. same_page p q;
+      page_shown = λ κs a x y s t p q. p ∙ sym q;
       shown = λ κs a x y s t p q. p ∙ sym q;
       decimal = λ κs a x y s t p q. same_page p q;
       hex = λ κs a x y s t p q. same_page p q;

@@ -27,7 +27,8 @@ use Rattle.stores.proofs.numbers.store_u32.Reads as stores-store-u32
 use Rattle.stores.proofs.numbers.store_u64.Reads as stores-store-u64
 use Rattle.text.specs.declared.page.Page.{Page}
 use Rattle.text.proofs.page.Page.put.Reads as text_put
-use Rattle.text.proofs.page.Page.shown.Reads as text-shown
+use Rattle.text.proofs.page.Page.shown.Reads as text-page-shown
+use Rattle.text.proofs.page.shown.Reads as text-shown
 use Rattle.text.proofs.page.Page.decimal.Reads as text-decimal
 use Rattle.text.proofs.page.Page.hex.Reads as text-hex
 use Rattle.text.proofs.page.Page.labelled.Reads as text-labelled
@@ -165,6 +166,7 @@ pub record StoresUnique : Type 0 where
 
 pub record TextUnique : Type 0 where
   pub put : Fixes (λ κs x s. held_by s.0.now) text_put.Post
+  pub page_shown : Fixes (λ κs x s. x.now) text-page-shown.Post
   pub shown : Fixes (λ κs x s. x.now) text-shown.Post
   pub decimal : Fixes (λ κs x s. held_by s.0.now) text-decimal.Post
   pub hex : Fixes (λ κs x s. held_by s.0.now) text-hex.Post
