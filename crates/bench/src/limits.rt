@@ -5,7 +5,6 @@ use report::endings::outcome;
 use std::io;
 use stores::numbers::{store_u16, store_u64};
 use text::page::Page;
-use words::answers::Refusal;
 use words::bytes::u64_at;
 
 // Vendor word, and at 0x100 the VSEC structure: 1 entry of 2 words, tBIR 1, table at 2,000.
@@ -32,14 +31,16 @@ fn name_of(which: u64) -> &'static str {
     }
 }
 
-// What came, at the end of a line. No ending of these has more than 14 bytes.
-fn ends(rt: &impl Print, came: Result<(), Refusal>) -> io::Result<()> {
-    let mut bytes = [0u8; 14];
+// A line, on a page that has room for the longest, whatever the numbers: 103 bytes.
+fn say<F: FnOnce(&mut Page)>(rt: &impl Print, line: F) -> io::Result<()>
+    requires { F.IsAlwaysCallable line }
+{
+    let mut bytes = [0u8; 128];
     let mut page = Page {
         bytes: &mut bytes,
         at: 0,
     };
-    outcome(&mut page, came);
+    line(&mut page);
     rt.write_all(page.shown())
 }
 
@@ -67,7 +68,6 @@ impl Bench {
     // Writes, each of a number to a field of a limit of a domain. Then what both captures hold where the socket's first limit stands.
     fn writes(&mut self, rt: &impl Print, asked: &[(u64, u64, u64, u64)]) -> io::Result<()> {
         for (n, limit, which, value) in asked {
-            print!(rt; "domain {n}, limit {limit}, {} {value}", name_of(*which))?;
             let came = write::write(
                 &self.config,
                 0,
@@ -80,11 +80,22 @@ impl Bench {
                 *which,
                 *value,
             );
-            ends(rt, came)?;
+            say(rt, |page| {
+                page.labelled(b"domain ", *n);
+                page.labelled(b", limit ", *limit);
+                page.put(b", ");
+                page.put(name_of(*which).as_bytes());
+                page.labelled(b" ", *value);
+                outcome(page, came);
+            })?;
         }
         let low = u64_at(&self.low, 6112);
         let high = u64_at(&self.high, 6112);
-        println!(rt; "  at 6112 BAR 0 holds 0x{low:x}, BAR 1 holds 0x{high:x}")
+        say(rt, |page| {
+            page.labelled_hex(b"  at 6112 BAR 0 holds 0x", low);
+            page.labelled_hex(b", BAR 1 holds 0x", high);
+            page.put(b"\n");
+        })
     }
 
     // Document 01's three writes: PWR_LIM, TIME_WINDOW and PWR_LIM_EN of the socket's first limit.

@@ -37,29 +37,34 @@ pub(crate) fn set_domains(bar: &mut [u8]) {
     }
 }
 
-// What came, at the end of a line. No ending of these has more than 23 bytes.
-fn ends<F: FnOnce(&mut Page)>(rt: &impl Print, ending: F) -> io::Result<()>
-    requires { F.IsAlwaysCallable ending }
+// A line, on a page that has room for the longest, whatever the numbers: 111 bytes, of a domain.
+fn say<F: FnOnce(&mut Page)>(rt: &impl Print, line: F) -> io::Result<()>
+    requires { F.IsAlwaysCallable line }
 {
-    let mut bytes = [0u8; 23];
+    let mut bytes = [0u8; 128];
     let mut page = Page {
         bytes: &mut bytes,
         at: 0,
     };
-    ending(&mut page);
+    line(&mut page);
     rt.write_all(page.shown())
 }
 
 // The instance has room for three.
 pub(crate) fn domains(rt: &impl Print, capture: Capture) -> io::Result<()> {
     for n in 0..4 {
-        print!(rt; "domain {n}")?;
         match lookups::domain(capture, 0, n) {
-            Ok(h) => println!(rt;
-                ": type {}, parent {}, FLAGS 0x{:x}",
-                h.kind, h.parent, h.flags
-            )?,
-            Err(r) => ends(rt, |page| refusal(page, r))?,
+            Ok(h) => say(rt, |page| {
+                page.labelled(b"domain ", n);
+                page.labelled(b": type ", h.kind);
+                page.labelled(b", parent ", h.parent);
+                page.labelled_hex(b", FLAGS 0x", h.flags);
+                page.put(b"\n");
+            })?,
+            Err(r) => say(rt, |page| {
+                page.labelled(b"domain ", n);
+                refusal(page, r);
+            })?,
         }
     }
     Ok(())
@@ -68,18 +73,23 @@ pub(crate) fn domains(rt: &impl Print, capture: Capture) -> io::Result<()> {
 // The socket's units, energy status and limit info; the memory has no second limit; no domain has a register 16.
 pub(crate) fn registers(rt: &impl Print, capture: Capture) -> io::Result<()> {
     for (n, r) in [(0, 1), (0, 7), (0, 9), (1, 3), (1, 16)] {
-        print!(rt; "register {r} of domain {n}")?;
         let came = lookups::register(capture, 0, n, r);
-        ends(rt, |page| content(page, came))?;
+        say(rt, |page| {
+            page.labelled(b"register ", r);
+            page.labelled(b" of domain ", n);
+            content(page, came);
+        })?;
     }
     Ok(())
 }
 
 pub(crate) fn chains(rt: &impl Print, capture: Capture) -> io::Result<()> {
     for n in 0..3 {
-        print!(rt; "steps to the root from domain {n}")?;
         let came = lookups::chain(capture, 0, n);
-        ends(rt, |page| value(page, came))?;
+        say(rt, |page| {
+            page.labelled(b"steps to the root from domain ", n);
+            value(page, came);
+        })?;
     }
     Ok(())
 }
@@ -87,9 +97,11 @@ pub(crate) fn chains(rt: &impl Print, capture: Capture) -> io::Result<()> {
 // The socket has one; there is no domain 3.
 pub(crate) fn limits(rt: &impl Print, capture: Capture) -> io::Result<()> {
     for n in [0, 3] {
-        print!(rt; "PWR_LIM of limit 1 of domain {n}")?;
         let came = limit_1(capture, n);
-        ends(rt, |page| value(page, came))?;
+        say(rt, |page| {
+            page.labelled(b"PWR_LIM of limit 1 of domain ", n);
+            value(page, came);
+        })?;
     }
     Ok(())
 }

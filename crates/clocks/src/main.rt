@@ -78,7 +78,10 @@ fn instances(rt: &impl Print, capture: Capture) -> io::Result<()> {
             }
             Ok(())
         }
-        Err(Refusal(number)) => println!(rt; "refused {number}"),
+        Err(Refusal(number)) => say(rt, |page| {
+            page.labelled(b"refused ", u64::from(number));
+            page.put(b"\n");
+        }),
     }
 }
 
@@ -87,7 +90,7 @@ fn main(rt: HostRuntime) -> io::Result<()> {
     let mut input = Vec::new(rt.alloc());
     rt.reader().take(135178).read_to_end(&mut input)?;
     let Some(l) = layout_of(&input) else {
-        return println!(rt; "unreadable");
+        return say(&rt, |page| page.put(b"unreadable\n"));
     };
     instances(
         &rt,

@@ -6,32 +6,42 @@ use tpmi_entries::entry;
 use tpmi_structure::structure;
 use words::answers::Refusal;
 
-// The bytes of a part in their order, two digits each.
-fn bytes(rt: &impl Print, part: &[u8]) -> io::Result<()> {
-    for b in part {
-        print!(rt; " {b:02x}")?;
-    }
-    Ok(())
-}
-
-// What came, at the end of a line. No ending of these has more than 14 bytes.
-fn ends<F: FnOnce(&mut Page)>(rt: &impl Print, ending: F) -> io::Result<()>
-    requires { F.IsAlwaysCallable ending }
+// A line, on a page that has room for the longest, whatever the numbers: 178 bytes, of an entry.
+fn say<F: FnOnce(&mut Page)>(rt: &impl Print, line: F) -> io::Result<()>
+    requires { F.IsAlwaysCallable line }
 {
-    let mut bytes = [0u8; 14];
+    let mut bytes = [0u8; 178];
     let mut page = Page {
         bytes: &mut bytes,
         at: 0,
     };
-    ending(&mut page);
+    line(&mut page);
     rt.write_all(page.shown())
+}
+
+// Words, and the bytes of a part in their order, two digits each.
+fn part_text(page: &mut Page, words: &[u8], part: &[u8]) {
+    page.put(words);
+    for b in part {
+        page.labelled_hex(b" ", u64::from(*b / 16));
+        page.hex(u64::from(*b % 16));
+    }
 }
 
 // A part that was written back, and what came of it.
 fn back(rt: &impl Print, part: &[u8], came: Result<(), Refusal>) -> io::Result<()> {
-    print!(rt; "  written back")?;
-    bytes(rt, part)?;
-    ends(rt, |page| outcome(page, came))
+    say(rt, |page| {
+        part_text(page, b"  written back", part);
+        outcome(page, came);
+    })
+}
+
+// A part that is refused.
+fn say_refused(rt: &impl Print, words: &[u8], part: &[u8], r: Refusal) -> io::Result<()> {
+    say(rt, |page| {
+        part_text(page, words, part);
+        refusal(page, r);
+    })
 }
 
 // Read, and written to a blank part.
@@ -40,37 +50,40 @@ pub(crate) fn vsec(rt: &impl Print) -> io::Result<()> {
         0x0B, 0x00, 0x01, 0x00, 0x42, 0x00, 0x01, 0x01, 0x00, 0x00, 0x02, 0x02, 0x01, 0x08, 0x00,
         0x00,
     ];
-    print!(rt; "VSEC")?;
-    bytes(rt, &part)?;
     match structure::read(&part) {
         Ok(v) => {
-            println!(rt;
-                ": entries {}, tBIR {}, table at {}",
-                v.entries, v.bir, v.offset
-            )?;
+            say(rt, |page| {
+                part_text(page, b"VSEC", &part);
+                page.labelled(b": entries ", v.entries);
+                page.labelled(b", tBIR ", v.bir);
+                page.labelled(b", table at ", v.offset);
+                page.put(b"\n");
+            })?;
             let mut blank = [0u8; 16];
             let came = structure::write(&mut blank, v);
             back(rt, &blank, came)
         }
-        Err(r) => ends(rt, |page| refusal(page, r)),
+        Err(r) => say_refused(rt, b"VSEC", &part, r),
     }
 }
 
 pub(crate) fn pfs(rt: &impl Print) -> io::Result<()> {
     let part = [0x00, 0x01, 0x60, 0x00, 0x04, 0x00, 0x01, 0x00];
-    print!(rt; "PFS")?;
-    bytes(rt, &part)?;
     match entry::read(&part) {
         Ok(e) => {
-            print!(rt;
-                ": TPMI_ID {}, entries {} of {} words",
-                e.id, e.instances, e.words
-            )?;
-            println!(rt; " at {} KiB, attribute {}", e.offset, e.attribute)?;
+            say(rt, |page| {
+                part_text(page, b"PFS", &part);
+                page.labelled(b": TPMI_ID ", e.id);
+                page.labelled(b", entries ", e.instances);
+                page.labelled(b" of ", e.words);
+                page.labelled(b" words at ", e.offset);
+                page.labelled(b" KiB, attribute ", e.attribute);
+                page.put(b"\n");
+            })?;
             let mut blank = [0u8; 8];
             let came = entry::write(&mut blank, e);
             back(rt, &blank, came)
         }
-        Err(r) => ends(rt, |page| refusal(page, r)),
+        Err(r) => say_refused(rt, b"PFS", &part, r),
     }
 }

@@ -2,7 +2,7 @@
 // with two clusters, read and written field by field. Each question is asked of the code, and one line says what was asked and what came.
 #![tactic(auto)]
 
-mod line_ends;
+mod lines;
 mod numbering;
 mod placement;
 mod ratios;

@@ -1,5 +1,5 @@
 // Document 002's examples of the global fabric number, and the bounds of dies and local numbers.
-use crate::line_ends::ends;
+use crate::lines::say;
 use report::endings::value;
 use std::io;
 use stores::numbers::store_u64;
@@ -11,11 +11,15 @@ fn global(rt: &impl Print, header: u64, die: u64, n: u64) -> io::Result<()> {
     let mut s = [0u8; 8];
     store_u64(&mut s, 0, header);
     let mask = Header::from(header).mask;
-    print!(rt;
-        "mask {mask}, clusters {}, die {die}, local number {n}",
-        count_of(mask)
-    )?;
-    ends(rt, |page| value(page, fabric_in(&s, die, n)))
+    let clusters = count_of(mask);
+    let fabric = fabric_in(&s, die, n);
+    say(rt, |page| {
+        page.labelled(b"mask ", mask);
+        page.labelled(b", clusters ", clusters);
+        page.labelled(b", die ", die);
+        page.labelled(b", local number ", n);
+        value(page, fabric);
+    })
 }
 
 // Example 1, of four dielets with two clusters each, and example 2, with one cluster each.

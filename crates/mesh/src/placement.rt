@@ -1,5 +1,5 @@
 // Document 002's register map and its table of indices: where the six registers stand in the bytes of an instance.
-use crate::line_ends::ends;
+use crate::lines::say;
 use report::endings::value;
 use std::io;
 use stores::numbers::store_u64;
@@ -10,9 +10,12 @@ use uncore_clusters::clusters::{
 // Of die 0, local cluster 0.
 fn places(rt: &impl Print, s: &[u8]) -> io::Result<()> {
     for r in [HEADER, OFFSETS, STATUS, CONTROL, ADVANCED_1, ADVANCED_2] {
-        print!(rt; "instance of bytes {}, register {r}", s.len())?;
         let at = place_in(s, 0, 0, r);
-        ends(rt, |page| value(page, at))?;
+        say(rt, |page| {
+            page.labelled(b"instance of bytes ", s.len() as u64);
+            page.labelled(b", register ", r);
+            value(page, at);
+        })?;
     }
     Ok(())
 }

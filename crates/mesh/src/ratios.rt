@@ -1,8 +1,9 @@
 // Writes of a cluster's fields, permitted and refused: what came, and what the registers hold then.
-use crate::line_ends::ends;
+use crate::lines::say;
 use crate::two_clusters::TwoClusters;
 use report::endings::{content, outcome};
 use std::io;
+use text::page::Page;
 use uncore_clusters::clusters::{ADVANCED_2, CONTROL, HEADER, STATUS};
 use uncore_permits::control_fields::{
     BANDWIDTH_THRESHOLD, EFFICIENCY_RATIO, EFFICIENCY_THRESHOLD, MAX_RATIO, MIN_RATIO, SLOPE,
@@ -22,15 +23,15 @@ fn control_field(which: u64) -> Option<&'static str> {
 }
 
 // A field of a register, by name where it has one.
-fn field(rt: &impl Print, r: u64, which: u64) -> io::Result<()> {
+fn field_text(page: &mut Page, r: u64, which: u64) {
     let name = if r == CONTROL {
         control_field(which)
     } else {
         None
     };
     match name {
-        Some(name) => print!(rt; "{name}"),
-        None => print!(rt; "field {which}"),
+        Some(name) => page.put(name.as_bytes()),
+        None => page.labelled(b"field ", which),
     }
 }
 
@@ -41,19 +42,26 @@ fn write(
     asked: &[(u64, u64, u64, u64)],
 ) -> io::Result<()> {
     for (n, r, which, value) in asked {
-        print!(rt; "cluster {n}, register {r}, ")?;
-        field(rt, *r, *which)?;
-        print!(rt; " := {value}")?;
         let came = capture.write(*n, *r, *which, *value);
-        ends(rt, |page| outcome(page, came))?;
+        say(rt, |page| {
+            page.labelled(b"cluster ", *n);
+            page.labelled(b", register ", *r);
+            page.put(b", ");
+            field_text(page, *r, *which);
+            page.labelled(b" := ", *value);
+            outcome(page, came);
+        })?;
     }
     for (name, held) in [
         ("control of cluster 0", capture.control0()),
         ("control of cluster 1", capture.control1()),
         ("second advanced control of cluster 1", capture.second1()),
     ] {
-        print!(rt; "  {name}")?;
-        ends(rt, |page| content(page, Ok(held)))?;
+        say(rt, |page| {
+            page.put(b"  ");
+            page.put(name.as_bytes());
+            content(page, Ok(held));
+        })?;
     }
     Ok(())
 }

@@ -1,6 +1,6 @@
 // Document 002's registers by themselves, each read as a value and written back: a line with the names of its fields from bit 0 up, its
 // content and the fields' numbers, and a line with what was written back.
-use crate::line_ends::ends;
+use crate::lines::say;
 use report::endings::content;
 use std::io;
 use uncore_controls::advanced1::Advanced1;
@@ -22,12 +22,19 @@ fn said(
     fields: &[u64],
     back: Result<u64, Refusal>,
 ) -> io::Result<()> {
-    print!(rt; "{names} 0x{register:x}:")?;
-    for field in fields {
-        print!(rt; " {field}")?;
-    }
-    print!(rt; "\n  written back")?;
-    ends(rt, |page| content(page, back))
+    say(rt, |page| {
+        page.put(names.as_bytes());
+        page.labelled_hex(b" 0x", register);
+        page.put(b":");
+        for field in fields {
+            page.labelled(b" ", *field);
+        }
+        page.put(b"\n");
+    })?;
+    say(rt, |page| {
+        page.put(b"  written back");
+        content(page, back);
+    })
 }
 
 fn header(rt: &impl Print, register: u64) -> io::Result<()> {

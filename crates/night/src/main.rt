@@ -12,46 +12,67 @@ use std::io;
 use text::page::Page;
 use words::answers::Refusal;
 
-fn say_seen(rt: &impl Print, seen: Reading) -> io::Result<()> {
-    print!(rt;
-        " tick {} register {} boot {}",
-        seen.tick, seen.status, seen.boot
-    )
-}
-
-// A call, at the start of its line.
-fn say_call(rt: &impl Print, n: usize, call: Call) -> io::Result<()> {
-    match call {
-        Call::Open(asked) => {
-            print!(rt; "open {n} unit {} gap {}", asked.unit, asked.gap)?;
-            say_seen(rt, asked.seen)
-        }
-        Call::Read(seen) => {
-            print!(rt; "read {n}")?;
-            say_seen(rt, seen)
-        }
-        Call::Resume(seen) => {
-            print!(rt; "resume {n}")?;
-            say_seen(rt, seen)
-        }
-        Call::Close => print!(rt; "close {n}"),
-        Call::Ask => print!(rt; "total {n}"),
-    }
-}
-
-// What came, at the end of its line. The longest has 23 bytes.
-fn say_answer(rt: &impl Print, answer: Result<Option<u64>, Refusal>) -> io::Result<()> {
-    let mut bytes = [0u8; 23];
+// A line, on a page that has room for the longest, whatever the numbers: 161 bytes.
+fn say<F: FnOnce(&mut Page)>(rt: &impl Print, line: F) -> io::Result<()>
+    requires { F.IsAlwaysCallable line }
+{
+    let mut bytes = [0u8; 161];
     let mut page = Page {
         bytes: &mut bytes,
         at: 0,
     };
+    line(&mut page);
+    rt.write_all(page.shown())
+}
+
+fn seen_text(page: &mut Page, seen: Reading) {
+    page.labelled(b" tick ", seen.tick);
+    page.labelled(b" register ", seen.status);
+    page.labelled(b" boot ", u64::from(seen.boot));
+}
+
+// A call, at the start of its line.
+fn call_text(page: &mut Page, n: usize, call: Call) {
+    match call {
+        Call::Open(asked) => {
+            page.labelled(b"open ", n as u64);
+            page.labelled(b" unit ", asked.unit);
+            page.labelled(b" gap ", u64::from(asked.gap));
+            seen_text(page, asked.seen);
+        }
+        Call::Read(seen) => {
+            page.labelled(b"read ", n as u64);
+            seen_text(page, seen);
+        }
+        Call::Resume(seen) => {
+            page.labelled(b"resume ", n as u64);
+            seen_text(page, seen);
+        }
+        Call::Close => page.labelled(b"close ", n as u64),
+        Call::Ask => page.labelled(b"total ", n as u64),
+    }
+}
+
+// What came, at the end of its line.
+fn answer_text(page: &mut Page, answer: Result<Option<u64>, Refusal>) {
     match answer {
         Ok(None) => page.put(b": accepted\n"),
-        Ok(Some(t)) => value(&mut page, Ok(t)),
-        Err(r) => refusal(&mut page, r),
+        Ok(Some(t)) => value(page, Ok(t)),
+        Err(r) => refusal(page, r),
     }
-    rt.write_all(page.shown())
+}
+
+// Words, a number, and what came.
+fn say_answer(
+    rt: &impl Print,
+    words: &[u8],
+    n: u64,
+    answer: Result<Option<u64>, Refusal>,
+) -> io::Result<()> {
+    say(rt, |page| {
+        page.labelled(words, n);
+        answer_text(page, answer);
+    })
 }
 
 // Calls, each on a channel: what each answered, and what they leave of the channels.
@@ -61,8 +82,10 @@ fn run(rt: &impl Print, channels: &mut [Channel; 64], calls: &[(usize, Call)]) -
             channels: left,
             answer,
         } = hall::call_on(*channels, *n, *call);
-        say_call(rt, *n, *call)?;
-        say_answer(rt, answer)?;
+        say(rt, |page| {
+            call_text(page, *n, *call);
+            answer_text(page, answer);
+        })?;
         *channels = left;
     }
     Ok(())
@@ -144,8 +167,12 @@ fn bench(rt: &impl Print, channels: &mut [Channel; 64]) -> io::Result<()> {
 }
 
 fn hall_total(rt: &impl Print, channels: [Channel; 64], unit: u64) -> io::Result<()> {
-    print!(rt; "hall total of unit {unit}")?;
-    say_answer(rt, hall::hall_total(channels, unit))
+    say_answer(
+        rt,
+        b"hall total of unit ",
+        unit,
+        hall::hall_total(channels, unit),
+    )
 }
 
 fn main(rt: HostRuntime) -> io::Result<()> {
@@ -153,8 +180,7 @@ fn main(rt: HostRuntime) -> io::Result<()> {
     evening(&rt, &mut channels)?;
     others(&rt, &mut channels)?;
     run(&rt, &mut channels, &[(3, Call::Ask)])?;
-    print!(rt; "wattmeter 3")?;
-    say_answer(&rt, Ok(Some(wattmeter())))?;
+    say_answer(&rt, b"wattmeter ", 3, Ok(Some(wattmeter())))?;
     run(&rt, &mut channels, &[(5, Call::Ask)])?;
     hall_total(&rt, channels, 14)?;
     bench(&rt, &mut channels)?;

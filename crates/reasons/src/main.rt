@@ -23,19 +23,23 @@ const LONGEST: usize = 65536;
 // A test has 16 bytes: no input has more of them.
 const TESTS: u64 = 4096;
 
-// How an exchange's tests went: the numbers behind them, the state that they left, and the last reply.
+// A read that ended takes a start and two tests, 72 bytes: no input has more.
+const READS: usize = 910;
+
+// How an exchange's tests went: the bytes behind them, the state that they left, and the last reply.
 #[derive(Clone, Copy)]
 struct Exchanged<'a> {
-    rest: &'a [u64],
+    rest: &'a [u8],
     state: Mailbox,
     reply: Reply,
 }
 
-// How the input went: how many numbers were not played, and that no exchange was left open.
+// How the input went: how many bytes were not played, that no exchange was left open, and how many reads ended.
 #[derive(Clone, Copy)]
 struct Course {
     left: usize,
     over: bool,
+    reads: usize,
 }
 
 // A line, on a page that has room for the longest: 145 bytes (`ExchangeLineFact` of reasons_lines).
@@ -56,14 +60,12 @@ fn say_reasons(rt: &impl Print, label: &[u8], coarse: u64) -> io::Result<()> {
 }
 
 // The exchange that five numbers ask for; one that is refused is over.
-fn started(
-    rt: &impl Print,
-    command: u64,
-    domain: u64,
-    id: u64,
-    reasons: u64,
-    tests: u64,
-) -> io::Result<Mailbox> {
+fn started(rt: &impl Print, head: &[u8]) -> io::Result<Mailbox> {
+    let command = u64_at(head, 0);
+    let domain = u64_at(head, 8);
+    let id = u64_at(head, 16);
+    let reasons = u64_at(head, 24);
+    let tests = u64_at(head, 32);
     let begun = start(command, domain, id, reasons, tests);
     let came = begun.map(|_| ());
     say(rt, |page| {
@@ -77,22 +79,24 @@ fn is_over(m: Mailbox) -> bool {
 }
 
 // The tests of an exchange, until it is over or no whole test is left.
-fn all_tested<'a>(rt: &impl Print, numbers: &'a [u64], m: Mailbox) -> io::Result<Exchanged<'a>>
-    ensures within { IfOk result (λ t. length t.rest.now ≤ length numbers.now) }
+fn all_tested<'a>(rt: &impl Print, bytes: &'a [u8], m: Mailbox) -> io::Result<Exchanged<'a>>
+    ensures within { IfOk result (λ t. length t.rest.now ≤ length bytes.now) }
 {
-    let mut rest = numbers;
+    let mut rest = bytes;
     let mut state = m;
     let mut reply = Reply::Nothing;
     for n in 1..=TESTS {
         if is_over(state) {
             break;
         }
-        let [interface, reasons, left @ ..] = rest else {
+        let Some((test, left)) = rest.split_at_checked(16) else {
             break;
         };
-        let s = step(state, *interface, *reasons);
+        let interface = u64_at(test, 0);
+        let reasons = u64_at(test, 8);
+        let s = step(state, interface, reasons);
         say(rt, |page| {
-            test_line(page, n, *interface, *reasons, s.reply)
+            test_line(page, n, interface, reasons, s.reply)
         })?;
         rest = left;
         state = s.state;
@@ -109,15 +113,19 @@ fn say_halves(rt: &impl Print, reasons: u64) -> io::Result<()> {
 }
 
 // The exchanges, one after the other. What the reads among them gave is kept in `reads`.
-fn played(rt: &impl Print, numbers: &[u64], reads: &mut Vec<u64>) -> io::Result<Course> {
-    let mut rest = numbers;
+fn played(rt: &impl Print, bytes: &[u8], reads: &mut [u64]) -> io::Result<Course> {
+    let mut rest = bytes;
     let mut over = true;
-    while over && let [command, domain, id, reasons, tests, left @ ..] = rest {
-        let state = started(rt, *command, *domain, *id, *reasons, *tests)?;
+    let mut many = 0;
+    while over && let Some((head, left)) = rest.split_at_checked(40) {
+        let state = started(rt, head)?;
         let t = all_tested(rt, left, state)?;
         if let Reply::Read(reasons) = t.reply {
             say_halves(rt, reasons)?;
-            reads.push(reasons)?;
+            if let Some(kept) = reads.get_mut(many) {
+                *kept = reasons;
+                many += 1;
+            }
         }
         rest = t.rest;
         over = is_over(t.state);
@@ -125,6 +133,7 @@ fn played(rt: &impl Print, numbers: &[u64], reads: &mut Vec<u64>) -> io::Result<
     Ok(Course {
         left: rest.len(),
         over,
+        reads: many,
     })
 }
 
@@ -133,22 +142,18 @@ fn main(rt: HostRuntime) -> io::Result<()> {
     let mut bytes = Vec::new(rt.alloc());
     rt.reader().take(65537).read_to_end(&mut bytes)?;
     if bytes.len() > LONGEST {
-        return println!(rt; "too long");
+        return say(&rt, |page| page.put(b"too long\n"));
     }
-    let numbers: Vec<u64> = bytes
-        .chunks_exact(8)
-        .map(|b| u64_at(b, 0))
-        .collect(rt.alloc())?;
-    let mut reads = Vec::new(rt.alloc());
-    let course = played(&rt, &numbers, &mut reads)?;
+    let mut reads = [0u64; READS];
+    let course = played(&rt, &bytes, &mut reads)?;
     if !course.over {
-        println!(rt; "unfinished")?;
+        say(&rt, |page| page.put(b"unfinished\n"))?;
     }
-    if course.left > 0 || bytes.len() % 8 != 0 {
-        println!(rt; "unreadable")?;
+    if course.left > 0 {
+        say(&rt, |page| page.put(b"unreadable\n"))?;
     }
-    if reads.is_empty() {
-        return Ok(());
+    match reads.get(..course.reads) {
+        None | Some([]) => Ok(()),
+        Some(reads) => say_reasons(&rt, b"all", joined(reads)),
     }
-    say_reasons(&rt, b"all", joined(&reads))
 }

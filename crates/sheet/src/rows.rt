@@ -40,16 +40,16 @@ pub(crate) fn set_table(bar: &mut [u8]) {
     }
 }
 
-// What came, at the end of a line. No place takes more than 86 bytes.
-fn ends<F: FnOnce(&mut Page)>(rt: &impl Print, ending: F) -> io::Result<()>
-    requires { F.IsAlwaysCallable ending }
+// A line, on a page that has room for the longest, whatever the numbers: 182 bytes, of a register.
+fn say<F: FnOnce(&mut Page)>(rt: &impl Print, line: F) -> io::Result<()>
+    requires { F.IsAlwaysCallable line }
 {
-    let mut bytes = [0u8; 86];
+    let mut bytes = [0u8; 182];
     let mut page = Page {
         bytes: &mut bytes,
         at: 0,
     };
-    ending(&mut page);
+    line(&mut page);
     rt.write_all(page.shown())
 }
 
@@ -57,14 +57,17 @@ fn ends<F: FnOnce(&mut Page)>(rt: &impl Print, ending: F) -> io::Result<()>
 // a place: so many entries of 8 bytes.
 pub(crate) fn discovery(rt: &impl Print, capture: Capture) -> io::Result<()> {
     for (lo, hi) in [(0, 1), (2, 3), (1, 6)] {
-        print!(rt; "table of the sheet, BARs {lo} and {hi}")?;
         let table = discover(Capture { lo, hi, ..capture }).map(|t| Place {
             bir: t.bir,
             start: t.start as usize,
             size: 8,
             count: u64::from(t.entries),
         });
-        ends(rt, |page| place(page, table))?;
+        say(rt, |page| {
+            page.labelled(b"table of the sheet, BARs ", u64::from(lo));
+            page.labelled(b" and ", u64::from(hi));
+            place(page, table);
+        })?;
     }
     Ok(())
 }
@@ -72,13 +75,17 @@ pub(crate) fn discovery(rt: &impl Print, capture: Capture) -> io::Result<()> {
 // Banks, and how many instances of PEM are valid.
 pub(crate) fn features(rt: &impl Print, capture: Capture) -> io::Result<()> {
     for id in [0x00, 0x01, 0x03, 0x05, 0xFD, 0x06, 0x80] {
-        print!(rt; "feature 0x{id:x}")?;
         let bank = feature(capture, id);
-        ends(rt, |page| place(page, bank))?;
+        say(rt, |page| {
+            page.labelled_hex(b"feature 0x", id);
+            place(page, bank);
+        })?;
     }
-    print!(rt; "valid instances of feature 0x1")?;
     let valid = valid_count(capture, 0x01);
-    ends(rt, |page| value(page, valid))
+    say(rt, |page| {
+        page.put(b"valid instances of feature 0x1");
+        value(page, valid);
+    })
 }
 
 // PMAX; CSR_ALL, whose first register is 0x110, so that its register 0x118 has the offset 8; an invalid instance of PEM, one that
@@ -92,9 +99,13 @@ pub(crate) fn registers(rt: &impl Print, capture: Capture) -> io::Result<()> {
         (0x03, 0, 64),
         (0x03, 0, 12),
     ] {
-        print!(rt; "register of feature 0x{id:x}, instance {n}, offset 0x{offset:x}")?;
         let found = register_place(capture, id, n, offset);
-        ends(rt, |page| place(page, found))?;
+        say(rt, |page| {
+            page.labelled_hex(b"register of feature 0x", id);
+            page.labelled(b", instance ", n);
+            page.labelled_hex(b", offset 0x", offset as u64);
+            place(page, found);
+        })?;
     }
     Ok(())
 }

@@ -29,14 +29,14 @@ pub(crate) fn capture<'a>(config: &'a [u8], low: &'a [u8], high: &'a [u8]) -> Ca
     }
 }
 
-// A question, and the number that came. No ending has more than 23 bytes.
+// A question, and the number that came. No line has more than 85 bytes.
 pub(crate) fn say(rt: &impl Print, question: &str, came: Result<u64, Refusal>) -> io::Result<()> {
-    rt.print(question)?;
-    let mut bytes = [0u8; 23];
+    let mut bytes = [0u8; 128];
     let mut page = Page {
         bytes: &mut bytes,
         at: 0,
     };
+    page.put(question.as_bytes());
     value(&mut page, came);
     rt.write_all(page.shown())
 }

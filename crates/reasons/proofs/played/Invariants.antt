@@ -1,4 +1,4 @@
--- `played` ends: each exchange takes five numbers at least. Assumes nothing.
+-- `played` ends: each exchange takes 40 bytes at least. Assumes nothing.
 use Rattle.std.proofs.Common.{length}
 use Rattle.reasons.proofs.played.Given as goal
 
