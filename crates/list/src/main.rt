@@ -4,6 +4,7 @@
 use list_output::output::list;
 use std::io;
 use std::io::Read;
+use text::page::shown;
 
 fn main(rt: HostRuntime) -> io::Result<()> {
     // The longest input that is looked at: a configuration space and two captures of 65,536 bytes with their heads.
@@ -12,5 +13,5 @@ fn main(rt: HostRuntime) -> io::Result<()> {
     // As long as the longest listing, so that none is refused.
     let mut page = [0u8; 15810];
     let many = list(&input, &mut page).unwrap_or(0) as usize;
-    rt.write_all(page.get(..many).unwrap_or(&page))
+    rt.write_all(shown(&page, many))
 }
