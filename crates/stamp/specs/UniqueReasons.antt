@@ -1,5 +1,5 @@
 -- Uniqueness of the public calls of the limit reasons (document 02, request 6), as Unique says it of the others: one record for each crate, one
--- field for each public call, and one more where a page is lent to be written.
+-- field for each public call; where a page is lent to be written it is over the page, its bytes and its place.
 -- Assumes nothing.
 use Rattle.reasons_registers.proofs.plr_header.HeaderFromU64.from.Reads as reasons-registers-plr-header-read
 use Rattle.reasons_registers.proofs.plr_header.U64TryFromHeader.try_from.Reads as reasons-registers-plr-header-write
