@@ -2,12 +2,12 @@
 // with two clusters, read and written field by field. Each question is asked of the code, and one line says what was asked and what came.
 #![tactic(auto)]
 
-mod lines;
 mod numbering;
 mod placement;
 mod ratios;
 mod two_clusters;
 mod values;
+mod whole_line;
 
 use std::io;
 

@@ -1,5 +1,5 @@
 // Document 002's examples of the global fabric number, and the bounds of dies and local numbers.
-use crate::lines::say;
+use crate::whole_line::say;
 use report::endings::value;
 use std::io;
 use stores::numbers::store_u64;

@@ -1,5 +1,5 @@
 // Document 002's register map and its table of indices: where the six registers stand in the bytes of an instance.
-use crate::lines::say;
+use crate::whole_line::say;
 use report::endings::value;
 use std::io;
 use stores::numbers::store_u64;

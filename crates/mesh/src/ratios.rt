@@ -1,6 +1,6 @@
 // Writes of a cluster's fields, permitted and refused: what came, and what the registers hold then.
-use crate::lines::say;
 use crate::two_clusters::TwoClusters;
+use crate::whole_line::say;
 use report::endings::{content, outcome};
 use std::io;
 use text::page::Page;

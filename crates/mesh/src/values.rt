@@ -1,6 +1,6 @@
 // Document 002's registers by themselves, each read as a value and written back: a line with the names of its fields from bit 0 up, its
 // content and the fields' numbers, and a line with what was written back.
-use crate::lines::say;
+use crate::whole_line::say;
 use report::endings::content;
 use std::io;
 use uncore_controls::advanced1::Advanced1;
