@@ -1,6 +1,6 @@
 -- The ways that a call on one channel can go, in plain words: one line for each number, with its condition and those of the tests before
 -- it failed (document 01, "Energy channels" and "Refusal table", and document 02, request 4, for 29; 12 comes before them where there is no
--- such channel). Number 0 is an accepted call. That `refusal_of` gives exactly these is the theorem Ways of Facts.antt.
+-- such channel). Number 0 is an accepted call. That `refusalOf` gives exactly these is the theorem Ways of Facts.antt.
 -- Assumes nothing.
 use Rattle.std.specs.Prelude.{ℕ, ◌+◌, ◌-◌, ◌≤◌, ◌<◌, ◌≡◌, ◌≢◌, true, false}
 use Rattle.energy_channel.specs.Channel.{most, in_range, is_open, rise}

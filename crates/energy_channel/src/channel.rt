@@ -200,8 +200,7 @@ impl Channel {
 }
 
 impl Channel {
-    // Any call. Inlined: a sweep makes 64 of them, and a call through memory takes longer than its tests.
-    #[inline(always)]
+    // Any call.
     pub fn take(self, call: Call) -> After
         ensures answer { told result.answer ≡ answer_of self call }
         ensures kept { result.channel ≡ leaves self call }
