@@ -258,3 +258,12 @@ gathered_goes u p (x ∷ xs) {b} {n} {k} {m} {ys} f c e room q y z =
     let room_left = length_most u.table (kind_of p b) in
     let t = goes_on u p.place n (omega arith) (omega arith) (x ∷ xs) 0 p.held p.bytes k q room (omega arith) (long ∙ ap (λ (j : Partial). length_of u.table (kind_of j x)) alike) in
     rw (g.0, y, z, drop-drop) (sym (rw zero-add at t))
+
+-- the same, by whether it is whole then
+pub gathered_by : (u : Rule) (p : Partial) (xs : List ℕ) {b n k m : ℕ} {ys : List ℕ} {w : Bool} → slice_get xs 0 ≡ Some b → cannot u p (kind_of p b) ≡ false
+    → n ≡ length_of u.table (kind_of p b) → length p.bytes ≡ 32 → k ≡ min (length xs) (n - p.held) → ys ≡ take k xs → m ≡ k → w ≡ eqb (p.held + k) n
+    → record { partial = record { place = p.place; held = p.held + k; bytes = take p.held p.bytes ++ (ys ++ drop m (drop p.held p.bytes)); stopped = p.stopped }; used = k; whole = w }
+    ≡ gathered u 0 p xs
+gathered_by u p xs {b} {n} {k} {m} {ys} f c e room q y z is =
+    ap (λ (v : Bool). record { partial = record { place = p.place; held = p.held + k; bytes = take p.held p.bytes ++ (ys ++ drop m (drop p.held p.bytes)); stopped = p.stopped }; used = k; whole = v }) is
+    ∙ gathered_goes u p xs f c e room q y z

@@ -127,9 +127,17 @@ pub fn gather(rule: Rule, p: Partial, piece: &[u8]) -> Gathered
     let held = p.held + used;
     let mut bytes = p.bytes;
     bytes[p.held..held].copy_from_slice(&piece[..used]);
+    let partial = Partial { held, bytes, ..p };
+    if held < n {
+        return Gathered {
+            partial,
+            used,
+            whole: false,
+        };
+    }
     Gathered {
-        partial: Partial { held, bytes, ..p },
+        partial,
         used,
-        whole: held == n,
+        whole: true,
     }
 }

@@ -114,7 +114,9 @@ impl Entries<'_> {
         ensures answer { done result ≡ passes (faults_of self.entry.bar.now self.entry.table count) }
     {
         for k in 0..count {
-            self.fault(count, k)?;
+            if let Err(refusal) = self.fault(count, k) {
+                return Err(refusal);
+            }
         }
         Ok(())
     }
