@@ -127,6 +127,7 @@ pub fn gather(rule: Rule, p: Partial, piece: &[u8]) -> Gathered
     let held = p.held + used;
     let mut bytes = p.bytes;
     bytes[p.held..held].copy_from_slice(&piece[..used]);
+    // Two returns, and no flag that is a test: what a cut leaves and what is whole are told apart.
     let partial = Partial { held, bytes, ..p };
     if held < n {
         return Gathered {

@@ -109,7 +109,7 @@ impl Entries<'_> {
         if met { Err(Refusal(11)) } else { Ok(()) }
     }
 
-    // The first faulty entry of so many decides.
+    // The first faulty entry of so many decides. Its refusal is returned by name and not by `?`, so that a wrong one is a change of one word.
     pub fn faults(self, count: u8) -> Result<(), Refusal>
         ensures answer { done result ≡ passes (faults_of self.entry.bar.now self.entry.table count) }
     {
