@@ -1,6 +1,9 @@
-// What a call on a channel carries.
+// What a call on a channel carries, and the number of what it answers.
 ghost use Rattle.std.specs.Prelude.{◌≡◌};
-ghost use Rattle.energy_calls.specs.Calls.{reading_of, opening_of, count_of};
+ghost use Rattle.words.specs.Answers.{number_in};
+ghost use Rattle.energy_calls.specs.Calls.{reading_of, opening_of, count_of, told};
+
+use words::answers::Refusal;
 
 // What is seen at a moment: the tick in ms, the status register, and the boot number of the machine, which each of its restarts changes.
 #[derive(Clone, Copy)]
@@ -50,4 +53,16 @@ pub fn count_of(status: u64) -> u32
     ensures answer { result ≡ count_of status }
 {
     fields::bits::field(status, 0, 32) as u32
+}
+
+// The refusal's number, 0 where the call was accepted. Opening, reading and resuming give nothing, closing and asking a total: the number is 0
+// beside either, and each is said for itself, which `words::answers::number_of` of any type can't.
+pub fn number_of(answered: Result<Option<u64>, Refusal>) -> u8
+    ensures answer { result ≡ number_in (told answered) }
+{
+    match answered {
+        Ok(None) => 0,
+        Ok(Some(_)) => 0,
+        Err(refusal) => refusal.0,
+    }
 }

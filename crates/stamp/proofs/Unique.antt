@@ -91,6 +91,7 @@ energy_calls_unique =
       count_of = λ κs a x y s t p q. p ∙ sym q;
       reading_of = λ κs a x y s t p q. p ∙ sym q;
       opening_of = λ κs a x y s t p q. p ∙ sym q;
+      number_of = λ κs a x y s t p q. p ∙ sym q;
     }
 
 pub energy_channel_unique : EnergyChannelUnique

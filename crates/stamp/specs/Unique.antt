@@ -46,6 +46,7 @@ use Rattle.report.proofs.endings.place.Reads as report-place
 use Rattle.energy_calls.proofs.calls.reading_of.Reads as energy-calls-reading-of
 use Rattle.energy_calls.proofs.calls.opening_of.Reads as energy-calls-opening-of
 use Rattle.energy_calls.proofs.calls.count_of.Reads as energy-calls-count-of
+use Rattle.energy_calls.proofs.calls.number_of.Reads as energy-calls-number-of
 use Rattle.energy_channel.proofs.channel.Channel.is_open.Reads as energy-channel-is-open
 use Rattle.energy_channel.proofs.channel.Channel.take.Reads as energy-channel-take
 use Rattle.energy_channel.proofs.channel.closed_channel.Reads as energy-channel-closed-channel
@@ -193,6 +194,7 @@ pub record EnergyCallsUnique : Type 0 where
   pub count_of : Only energy-calls-count-of.Post
   pub reading_of : Only energy-calls-reading-of.Post
   pub opening_of : Only energy-calls-opening-of.Post
+  pub number_of : Only energy-calls-number-of.Post
 
 pub record EnergyChannelUnique : Type 0 where
   pub is_open : Only energy-channel-is-open.Post

@@ -57,6 +57,6 @@ returns c =
     record {
       answer = ap passes (sym n);
       kept = c.store_u64-2.ensures.kept
-          ∙ ap₂ (λ (xs : List ℕ) (x : ℕ). stored xs 8 8 x) (c.store_u64.ensures.kept ∙ ap (stored c.args.part.now 0 8) (sym low.1)) (sym high.1)
+          ∙ ap₂ (λ (xs : List ℕ) (x : ℕ). stored xs 8 8 x) (c.store_u64.ensures.kept ∙ ap (stored c.args.part.now 0 8) (sym low.1)) (omega (arith, high.1))
           ∙ written_words c.args.part.now c.args.v n;
     }
