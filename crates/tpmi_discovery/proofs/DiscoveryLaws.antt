@@ -23,8 +23,8 @@ module _ (c : Capture) where
 
   -- one that is, at the place t
   module _ {t : Table} (located : location_of c ≡ gives (numbers t)) where
-    pub same_faults : {bar : List ℕ} → bar ≡ named t.bir c.lo c.low c.hi c.high → faults_of bar t.start t.entries ≡ faults_of (bar_of c) (table_of c) (entries_of c)
-    same_faults e = let p = table_located c located in rw (e ∙ bar_named c p.bir, p.start, p.entries)
+    pub same_faults : {bar : List ℕ} {n : ℕ} → bar ≡ named t.bir c.lo c.low c.hi c.high → n ≡ t.entries → faults_of bar t.start n ≡ faults_of (bar_of c) (table_of c) (entries_of c)
+    same_faults e f = let p = table_located c located in rw (e ∙ bar_named c p.bir, p.start, f ∙ p.entries)
 
     located_number : discovery_number c ≡ faults_of (bar_of c) (table_of c) (entries_of c)
     unfolding discovery_number

@@ -1,9 +1,8 @@
 -- `list_input::layout::low_in` meets its contract: the empty part, or the part that the layout says, which is there. Assumes nothing.
-use Prim.Native.Nat.{ℕ, ◌-◌}
-use mathlib.Core.Path.{◌≡◌, ap, ◌∙◌}
+use Prim.Native.Nat.{ℕ}
+use mathlib.Core.Path.{ap, ◌∙◌}
 use native.Mathlib.Omega.{arith}
 use lib.ListN.{take, drop}
-use Rattle.list_input.specs.Layout.{first_of}
 use Rattle.list_input.proofs.LayoutLaws.{not_laid, laid_out, low_there, low_none}
 use Rattle.list_input.proofs.layout.low_in.Goals as goal
 
@@ -20,8 +19,7 @@ slice_bounds-result-end c =
 pub returns-in-Some : goal.returns-in-Some
 returns-in-Some c =
     let l = laid_out c.args.input.now c.in-Some.ensures.answer in
-    let long : c.in-Some.l.low_end - 4101 ≡ first_of c.args.input.now = omega (arith, l.middle) in
-    record { part = ap (λ (n : ℕ). take n (drop 4101 c.args.input.now)) long ∙ low_there c.args.input.now l.reads }
+    record { part = ap (λ (n : ℕ). take n (drop 4101 c.args.input.now)) (omega (arith, l.middle)) ∙ low_there c.args.input.now l.reads }
 
 pub returns-in-None : goal.returns-in-None
 returns-in-None c = record { part = low_none c.args.input.now (not_laid c.args.input.now c.in-None.ensures.answer) }

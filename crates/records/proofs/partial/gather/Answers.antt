@@ -32,7 +32,7 @@ returns-then-held-n c = let u = rule_of c.args.rule.table.now c.args.rule.limit 
       (ap (cannot u c.args.p) (sym c.kind-kind.ensures.answer) ∙ sym c.cannot.ensures.answer ∙ c.if-cannot.false)
       (c.length_of-n.ensures.answer ∙ ap (length_of c.args.rule.table.now) c.kind-kind.ensures.answer)
       (search rules)
-      c.min-used.ensures
+      (search rules)
       c.copy_from_slice.ensures.after
       (omega arith)
       (sym (ne_eqb _ _ (λ e. omega (arith, e, c.if-held-n.true))));
@@ -44,7 +44,7 @@ returns c = let u = rule_of c.args.rule.table.now c.args.rule.limit in record {
       (ap (cannot u c.args.p) (sym c.kind-kind.ensures.answer) ∙ sym c.cannot.ensures.answer ∙ c.if-cannot.false)
       (c.length_of-n.ensures.answer ∙ ap (length_of c.args.rule.table.now) c.kind-kind.ensures.answer)
       (search rules)
-      c.min-used.ensures
+      (search rules)
       c.copy_from_slice.ensures.after
       (omega arith)
       (sym (eq-eqb _ _ (omega (arith, c.if-held-n.false, (can_come _ _ _ (sym c.cannot.ensures.answer ∙ c.if-cannot.false)).1, c.min-used.ensures, c.length_of-n.ensures.answer))));

@@ -1,5 +1,6 @@
 -- `tpmi_discovery::discovery::discover` meets its contract: the location's refusal, the first fault, or the table. Assumes nothing.
 use mathlib.Core.Path.{sym, ap, ◌∙◌}
+use native.Mathlib.Omega.{arith}
 use Rattle.words.specs.Answers.{refused}
 use Rattle.words.proofs.DoneLaws.{was_done, was_refused, not_done, handed_on}
 use Rattle.capture.specs.Capture.{capture_of}
@@ -16,15 +17,13 @@ returns-in_err-t c = record {
 pub returns-in_err-faults : goal.returns-in_err-faults
 returns-in_err-faults c =
     let there = sym c.in_ok-t.ensures.answer in
-    let found = same_faults (capture_of c.args.capture) there c.bar.ensures.part in
     record {
       answer = handed_on numbers c.from_residual-in_err-faults.result c.from_residual-in_err-faults.ensures.1
-          ∙ ap refused (sym (was_refused _ c.in_err-faults.ensures.answer) ∙ found)
-          ∙ sym (refuses_faults (capture_of c.args.capture) there (λ z. not_done _ c.in_err-faults.ensures.answer (found ∙ z)));
+          ∙ ap refused (sym (was_refused _ c.in_err-faults.ensures.answer) ∙ same_faults (capture_of c.args.capture) there c.bar.ensures.part (omega arith))
+          ∙ sym (refuses_faults (capture_of c.args.capture) there (λ z. not_done _ c.in_err-faults.ensures.answer (same_faults (capture_of c.args.capture) there c.bar.ensures.part (omega arith) ∙ z)));
     }
 
 pub returns : goal.returns
 returns c =
     let there = sym c.in_ok-t.ensures.answer in
-    let found = same_faults (capture_of c.args.capture) there c.bar.ensures.part in
-    record { answer = sym (accepts (capture_of c.args.capture) there (sym found ∙ was_done _ c.in_ok-faults.ensures.answer)) }
+    record { answer = sym (accepts (capture_of c.args.capture) there (sym (same_faults (capture_of c.args.capture) there c.bar.ensures.part (omega arith)) ∙ was_done _ c.in_ok-faults.ensures.answer)) }

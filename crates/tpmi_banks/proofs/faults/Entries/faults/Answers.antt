@@ -16,7 +16,7 @@ pub returns-in-Err : goal.returns-in-Err
 unfolding faults_of
 returns-in-Err c =
     let found : done (Err c.in-Err.refusal) ≡ passes (fault_at c.args.self.bar.now c.args.self.table c.args.count c.loop-k.k) = sym (ap done c.in-Err.is) ∙ c.fault.ensures.answer in
-    record { answer = found ∙ ap passes (sym (fault_stop (fault_at c.args.self.bar.now c.args.self.table c.args.count) c.loop-k.k c.args.count c.loop-k-test.true c.loop-k.invariant (not_done _ found))) }
+    record { answer = found ∙ ap passes (sym (fault_stop (fault_at c.args.self.bar.now c.args.self.table c.args.count) c.loop-k.k c.args.count (omega (arith, c.loop-k-test.true)) c.loop-k.invariant (not_done _ found))) }
 
 pub loop-k-preserved : goal.loop-k-preserved
 loop-k-preserved c = fault_pass (fault_at c.args.self.bar.now c.args.self.table c.args.count) c.loop-k.k c.loop-k.invariant (was_done _ (sym (ap done c.in_default.is) ∙ c.fault.ensures.answer))
